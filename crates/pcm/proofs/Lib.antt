@@ -1,0 +1,5 @@
+mod Nan
+mod HalfUp
+mod Ties
+mod Short
+mod Words

@@ -1,0 +1,21 @@
+-- `pcm::round_sat16` meets its contract. Assumes nothing.
+use borrow.Author.Needs.{needs}
+use mathlib.Core.Path.{_≡_, sym, subst}
+use mir.Syntax.{w16, w32}
+use mir.Val.{SFits, toZ, ofZ}
+use Rattle.pcm.specs.Integers.{answered, settled}
+use Rattle.pcm.specs.Rounding.{roundSat, round-fits}
+use Rattle.pcm.proofs.round_sat16.Statement.{statement}
+use Rattle.pcm.proofs.round_sat16.Tie as tie
+
+value : (c : tie.After-round-held) → toZ w32 (ofZ w32 (c .round-held .result)) ≡ roundSat 32768 32767 (c .before .args .v)
+value c = answered w32 (c .round-held .ok) (c .round-held .ensures)
+
+cast-result : tie.Need-cast-result
+cast-result c = subst (SFits w16) (sym (value c)) (round-fits (c .before .args .v))
+
+returns : tie.Need-returns
+returns c = settled w16 (value c) (round-fits (c .before .args .v))
+
+pub round-sat16-spec : {M : Type 1} → statement M
+round-sat16-spec = tie.close (tie.spec (λ c κs. search needs) cast-result returns)

@@ -1,0 +1,34 @@
+-- Refusals and their numbers (document 01, 'The questions'). Definitions only.
+use Prim.Native.Nat.{ℕ}
+use mathlib.Core.Bool.{Bool, true, false}
+use lib.Dec.{leb}
+use Rattle.pcm.specs.declared.Error.{Error}
+use Rattle.pcm.specs.declared.Error.the-variants.{InvalidFormat, Unsupported, BufferTooSmall, InvalidGeometry, ShortRecord, UnknownStage, RecordLength, TooManyStages, SettingOutOfRange, TooManyFrames}
+use Rattle.pcm.specs.declared.Verdict.{Verdict}
+use Rattle.pcm.specs.declared.Verdict.the-variants.{Accepted, Refused}
+
+-- a refusal yields its number, and 3 also the bytes needed
+pub record Refusal : Type 0 where
+  pub number : ℕ
+  pub needed : ℕ
+
+abbrev pub refusal : Error → Refusal
+refusal InvalidFormat = record { number = 1; needed = 0 }
+refusal Unsupported = record { number = 2; needed = 0 }
+refusal (BufferTooSmall n) = record { number = 3; needed = n }
+refusal InvalidGeometry = record { number = 4; needed = 0 }
+refusal ShortRecord = record { number = 5; needed = 0 }
+refusal UnknownStage = record { number = 6; needed = 0 }
+refusal RecordLength = record { number = 7; needed = 0 }
+refusal TooManyStages = record { number = 8; needed = 0 }
+refusal SettingOutOfRange = record { number = 9; needed = 0 }
+refusal TooManyFrames = record { number = 10; needed = 0 }
+
+-- a question that is answered no ends the call with its refusal
+abbrev pub ask : Bool → Error → Verdict → Verdict
+ask true e more = more
+ask false e more = Refused e
+
+-- is there room for the bytes needed? else 3
+unfoldable pub roomVerdict : ℕ → ℕ → Verdict
+roomVerdict needed room = ask (leb needed room) (BufferTooSmall needed) Accepted
