@@ -29,6 +29,11 @@ abbrev pub ask : Bool → Error → Verdict → Verdict
 ask true e more = more
 ask false e more = Refused e
 
+-- 0, or the refusal's number
+abbrev pub numberOf : Verdict → ℕ
+numberOf Accepted = 0
+numberOf (Refused e) = refusal e .number
+
 -- is there room for the bytes needed? else 3
 unfoldable pub roomVerdict : ℕ → ℕ → Verdict
 roomVerdict needed room = ask (leb needed room) (BufferTooSmall needed) Accepted

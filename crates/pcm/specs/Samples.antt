@@ -5,13 +5,14 @@ use mathlib.Core.List.{List, [], _∷_, _++_}
 use Prim.Native.Nat.{ℕ, zero, suc, _+_, _*_, _/_, _%_, _≤_, _<_, suc-le-suc, zero-le}
 use native.Mathlib.Nat.{not-suc-le-zero}
 use native.Mathlib.Omega.{arith}
-use borrow.Author.Tests.{ltb-false}
+use borrow.Author.Tests.{ltb-false, le-ltb}
 use lib.IntN.{ℤ, pos, negsuc}
 use lib.ListN.{length, getD, set}
 use lib.Signed.{ltZ}
-use mir.Syntax.{w16}
+use mir.Syntax.{Width, w16}
 use mir.Val.{SFits, toZ, ofZ}
 use mir.Facts.{toZ-ofZ, ofZ-toZ, sfits-toZ, sfits-lit}
+use Rattle.pcm.specs.Integers.{read-back}
 
 -- a number held within low and high
 unfoldable pub held : ℤ → ℤ → ℤ → ℤ
@@ -78,6 +79,17 @@ module _ (low high z : ℤ) where
   unfolding held
   held-inside e k = rw (e, k)
 
+-- the same by tests on a machine number of the width w
+module _ (w : Width) (low high z : ℤ) (f : SFits w z) where
+  pub tested-low : ltZ (toZ w (ofZ w z)) low ≡ true → low ≡ held low high z
+  tested-low e = held-low low high z (rw (read-back f) at e)
+
+  pub tested-high : ltZ (toZ w (ofZ w z)) low ≡ false → ltZ high (toZ w (ofZ w z)) ≡ true → high ≡ held low high z
+  tested-high e k = held-high low high z (rw (read-back f) at e) (rw (read-back f) at k)
+
+  pub tested-inside : ltZ (toZ w (ofZ w z)) low ≡ false → ltZ high (toZ w (ofZ w z)) ≡ false → toZ w (ofZ w z) ≡ held low high z
+  tested-inside e k = read-back f ∙ held-inside low high z (rw (read-back f) at e) (rw (read-back f) at k)
+
 pub inside16 : (z : ℤ) → ltZ z (negsuc 32767) ≡ false → ltZ (pos 32767) z ≡ false → SFits w16 z
 inside16 (pos n) e k = record { sfits = omega (arith, ltb-false 32767 n k) }
 inside16 (negsuc n) e k = record { sfits = omega (arith, ltb-false 32767 n e) }
@@ -90,6 +102,10 @@ held-fits z = go (ltZ z (negsuc 32767)) (ltZ (pos 32767) z) refl refl
     go true b e k = sfits-lit tt
     go false true e k = sfits-lit tt
     go false false e k = inside16 z e k
+
+pub held-sample : (z : ℤ) → SFits w16 z → held16 z ≡ z
+held-sample (pos n) f = sym (held-inside (negsuc 32767) (pos 32767) (pos n) refl (le-ltb 32767 n (omega (arith, f .sfits))))
+held-sample (negsuc n) f = sym (held-inside (negsuc 32767) (pos 32767) (negsuc n) (le-ltb 32767 n (omega (arith, f .sfits))) refl)
 
 -- ---- laws: bytes and samples, there and back
 pub all-by-index : {A : Type 0} (P : A → Type 0) (d : A) (xs : List A) → ((i : ℕ) → i < length xs → P (getD xs i d)) → All P xs

@@ -46,7 +46,10 @@ writing-put {goal} {rest} {m} {out₀} {out} {out′} {j} {z} {y} r e q h k =
     (subst (λ (l : List ℕ). Writing goal rest m out₀ l (j + 1 + 1)) (sym (e ∙ ap (stored out j) q)) two)
 
 -- ---- what is left to read
--- the next two bytes, and the next four
+-- the next byte, the next two, and the next four
+pub next-byte : (l : List ℕ) (i : ℕ) → i < length l → drop i l ≡ getD l i 0 ∷ drop (i + 1) l
+next-byte l i h = drop-cons l i 0 h ∙ ap (λ (k : ℕ). getD l i 0 ∷ drop k l) (sym (add-one i))
+
 pub next-pair : (l : List ℕ) (i : ℕ) → i + 1 < length l → drop i l ≡ getD l i 0 ∷ getD l (i + 1) 0 ∷ drop (i + 2) l
 next-pair l i h =
     let n : suc (i + 1) ≡ i + 2 = omega arith in

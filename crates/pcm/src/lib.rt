@@ -1,10 +1,11 @@
 // Formats, refusals, limits and 16-bit samples, low byte first (lib.rs, elements/mod.rs).
 ghost use mathlib.Core.Path.{_≡_};
-ghost use Prim.Native.Nat.{_+_, _<_};
+ghost use Prim.Native.Nat.{_+_, _≤_, _<_};
 ghost use lib.ListN.{length};
 ghost use Rattle.pcm.specs.Formats.{rateAllowed, formatAllowed, frameBytes};
-ghost use Rattle.pcm.specs.Refusals.{refusal, roomVerdict};
+ghost use Rattle.pcm.specs.Refusals.{refusal, numberOf, roomVerdict};
 ghost use Rattle.pcm.specs.Samples.{held16, sampleOf, sampleAt, stored};
+ghost use Rattle.pcm.specs.Frames.{written};
 ghost use Rattle.pcm.specs.Rounding.{roundSat};
 
 pub mod floats;
@@ -111,6 +112,18 @@ pub enum Verdict {
     Refused(Error),
 }
 
+impl Verdict {
+    // 0, or the refusal's number.
+    pub fn number(self) -> u16
+        ensures { λ r. ⌜ r ≡ numberOf self ⌝ }
+    {
+        match self {
+            Verdict::Accepted => 0,
+            Verdict::Refused(e) => e.number(),
+        }
+    }
+}
+
 // Does `out` hold `needed` bytes?
 pub fn require_room(out: &[u8], needed: usize) -> Verdict
     ensures { λ r. ⌜ r ≡ roomVerdict needed (length (now (out .entry))) ⌝ }
@@ -165,4 +178,17 @@ pub fn put_i16(s: &mut [u8], i: usize, v: i16)
     let u = (((v as i32) + 65536) as u32) % 65536;
     s[i] = (u % 256) as u8;
     s[i + 1] = (u / 256) as u8;
+}
+
+// The bytes of input at the front of out.
+pub fn copy_front(input: &[u8], out: &mut [u8])
+    requires { ⌜ length (now input) ≤ length (now out) ⌝ }
+    ensures { λ _. ⌜ now (out .exit) ≡ written (now (input .entry)) (now (out .entry)) ⌝ }
+{
+    let n = input.len();
+    let mut i: usize = 0;
+    while i < n {
+        out[i] = input[i];
+        i += 1;
+    }
 }

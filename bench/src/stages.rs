@@ -1,0 +1,63 @@
+//! The cases: each stage of the source, and ours.
+
+use crate::kernels;
+use crate::timing::Case;
+use oracle::elements::{Gain, MonoToStereo, StereoToMono, mix_i16};
+use oracle::esp_core::pcm::{PcmBlock, PcmFormat, SampleFormat};
+use oracle::pipeline::Element;
+use std::cell::RefCell;
+
+fn process(stage: &mut dyn Element, channels: u16, input: &[u8], out: &mut [u8]) -> usize {
+    let format = PcmFormat { sample_rate_hz: 16_000, channels, sample: SampleFormat::I16 };
+    stage.process(PcmBlock { format, timestamp: 0, data: input }, out).unwrap()
+}
+
+fn gain(name: &'static str, q15: i32, goal: f64) -> Case {
+    let stage = RefCell::new(Gain::from_q15(q15));
+    Case {
+        name,
+        channels: 1,
+        goal: [None, Some(goal), Some(goal)],
+        source: Box::new(move |input, out| process(&mut *stage.borrow_mut(), 1, input, out)),
+        ours: Box::new(move |input, out| kernels::gain(q15, input, out)),
+    }
+}
+
+pub fn all() -> Vec<Case> {
+    vec![
+        gain("gain 16,384", 16_384, 1.1),
+        gain("gain 65,535", 65_535, 1.1),
+        gain("gain -65,535", -65_535, 1.1),
+        gain("gain 32,768 (copy)", 32_768, 1.1),
+        gain("gain 65,536 (wide)", 65_536, 1.0),
+        gain("gain 33,554,432 (wide)", 33_554_432, 1.0),
+        Case {
+            name: "mono to stereo",
+            channels: 1,
+            goal: [None, Some(1.1), Some(1.1)],
+            source: Box::new(|input, out| process(&mut MonoToStereo, 1, input, out)),
+            ours: Box::new(kernels::mono_to_stereo),
+        },
+        Case {
+            name: "stereo to mono",
+            channels: 2,
+            goal: [None, Some(1.1), Some(1.1)],
+            source: Box::new(|input, out| process(&mut StereoToMono, 2, input, out)),
+            ours: Box::new(kernels::stereo_to_mono),
+        },
+        Case {
+            name: "mix",
+            channels: 2,
+            goal: [None, Some(1.1), Some(1.1)],
+            source: Box::new(|input, out| {
+                let (a, b) = input.split_at(input.len() / 2);
+                mix_i16(a, b, out).unwrap();
+                a.len()
+            }),
+            ours: Box::new(|input, out| {
+                let (a, b) = input.split_at(input.len() / 2);
+                kernels::mix(a, b, out)
+            }),
+        },
+    ]
+}

@@ -1,0 +1,83 @@
+//! One case timed at one length.
+
+use std::hint::black_box;
+use std::time::Instant;
+
+pub const FRAMES: [usize; 3] = [16, 1024, 8192];
+const ROUNDS: usize = 400;
+const ROUND_NS: u128 = 40_000;
+
+/// A block function of both sides, over the same bytes. Each run returns the bytes it wrote.
+pub struct Case {
+    pub name: &'static str,
+    pub channels: usize,
+    /// The largest ratio allowed at each of `FRAMES`, where there is one.
+    pub goal: [Option<f64>; 3],
+    pub source: Box<dyn Fn(&[u8], &mut [u8]) -> usize>,
+    pub ours: Box<dyn Fn(&[u8], &mut [u8]) -> usize>,
+}
+
+/// Bytes at an address that an i16 may have.
+struct Buffer(Vec<u64>);
+
+impl Buffer {
+    fn new(len: usize) -> Self {
+        Buffer(vec![0; len / 8 + 1])
+    }
+
+    fn bytes(&mut self, len: usize) -> &mut [u8] {
+        // SAFETY: the vector holds at least `len` bytes, and every u64 is eight of them.
+        unsafe { std::slice::from_raw_parts_mut(self.0.as_mut_ptr().cast(), len) }
+    }
+}
+
+/// Sound with loud and soft parts, the same for both sides.
+fn sound(out: &mut [u8]) {
+    let mut state = 0x2545_f491_4f6c_dd1du64;
+    for pair in out.chunks_exact_mut(2) {
+        state ^= state << 13;
+        state ^= state >> 7;
+        state ^= state << 17;
+        let x = ((state >> 32) as i16) >> (state & 3);
+        pair.copy_from_slice(&x.to_le_bytes());
+    }
+}
+
+fn once(run: &dyn Fn(&[u8], &mut [u8]) -> usize, input: &[u8], out: &mut [u8], times: u32) -> f64 {
+    let start = Instant::now();
+    for _ in 0..times {
+        black_box(run(black_box(input), black_box(&mut *out)));
+    }
+    start.elapsed().as_nanos() as f64 / f64::from(times)
+}
+
+/// Times one case, prints its row, and says whether its goal is met.
+pub fn row(case: &Case, frames: usize) -> bool {
+    let len = frames * case.channels * 2;
+    let room = len * 8 + 64;
+    let (mut a, mut b, mut c) = (Buffer::new(len), Buffer::new(room), Buffer::new(room));
+    let (input, theirs, ours) = (a.bytes(len), b.bytes(room), c.bytes(room));
+    sound(input);
+    let n = (case.source)(input, theirs);
+    assert_eq!(n, (case.ours)(input, ours), "{}: lengths differ", case.name);
+    assert_eq!(theirs[..n], ours[..n], "{}: bytes differ", case.name);
+
+    let mut times = 1;
+    while once(&case.source, input, theirs, times) * f64::from(times) < ROUND_NS as f64 && times < 1 << 16 {
+        times *= 2;
+    }
+    let mut best = [f64::MAX; 2];
+    for _ in 0..ROUNDS {
+        best[0] = best[0].min(once(&case.source, input, theirs, times));
+        best[1] = best[1].min(once(&case.ours, input, ours, times));
+    }
+    let ratio = best[1] / best[0];
+    let goal = case.goal[FRAMES.iter().position(|f| *f == frames).unwrap()];
+    let met = goal.is_none_or(|g| ratio <= g);
+    let said = match goal {
+        None => "-".into(),
+        Some(g) => format!("{g:.1} {}", if met { "met" } else { "MISSED" }),
+    };
+    println!("{:<34} {frames:>7} {:>11.1} {:>11.1} {ratio:>7.2}  {said}", case.name, best[0], best[1]);
+    met
+}

@@ -1,0 +1,12 @@
+-- `kernels::mix_block` meets its contract. Assumes nothing.
+use borrow.Author.Needs.{needs}
+use mathlib.Core.Path.{_≡_, ap, _∙_}
+use Rattle.pcm.specs.Refusals.{numberOf}
+use Rattle.kernels.proofs.mix_block.Statement.{statement}
+use Rattle.kernels.proofs.mix_block.Tie as tie
+
+returns : tie.Need-returns
+returns c = let mix = c .before .before .before .mix-i16 in (c .number .ensures ∙ ap numberOf (mix .ensures .0), rw (mix .ensures .0) at (mix .ensures .1))
+
+pub mix-block-spec : {M : Type 1} → statement M
+mix-block-spec = tie.close (tie.spec (λ c κs. search needs) (λ c κs. search needs) (λ c. search needs) returns)

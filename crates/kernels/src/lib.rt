@@ -1,0 +1,42 @@
+// The block functions for a caller in another language, to be timed. A caller tests what each requires.
+ghost use mathlib.Core.Path.{_≡_};
+ghost use Prim.Native.Nat.{_*_, _/_, _%_, _≤_};
+ghost use lib.IntN.{natAbs};
+ghost use lib.ListN.{length};
+ghost use Rattle.pcm.specs.Frames.{written};
+ghost use Rattle.gain.specs.Gain.{scaledBytes};
+ghost use Rattle.channels.specs.Channels.{stereoBytes, monoBytes, mixVerdict, afterMix};
+ghost use Rattle.pcm.specs.Refusals.{numberOf};
+use gain::Gain;
+
+#[no_mangle]
+pub extern "C" fn gain_block(q15: i32, input: &[u8], out: &mut [u8])
+    requires { ⌜ (length (now input) % 2 ≡ 0) × (length (now input) ≤ length (now out)) × (natAbs q15 ≤ 33554432) ⌝ }
+    ensures { λ _. ⌜ now (out .exit) ≡ written (scaledBytes q15 (now (input .entry))) (now (out .entry)) ⌝ }
+{
+    Gain { q15 }.process(input, out);
+}
+
+#[no_mangle]
+pub extern "C" fn mono_to_stereo_block(input: &[u8], out: &mut [u8])
+    requires { ⌜ (length (now input) % 2 ≡ 0) × (length (now input) * 2 ≤ length (now out)) ⌝ }
+    ensures { λ _. ⌜ now (out .exit) ≡ written (stereoBytes (now (input .entry))) (now (out .entry)) ⌝ }
+{
+    channels::mono_to_stereo(input, out);
+}
+
+#[no_mangle]
+pub extern "C" fn stereo_to_mono_block(input: &[u8], out: &mut [u8])
+    requires { ⌜ (length (now input) % 4 ≡ 0) × (length (now input) / 2 ≤ length (now out)) ⌝ }
+    ensures { λ _. ⌜ now (out .exit) ≡ written (monoBytes (now (input .entry))) (now (out .entry)) ⌝ }
+{
+    channels::stereo_to_mono(input, out);
+}
+
+// 0, or the refusal's number.
+#[no_mangle]
+pub extern "C" fn mix_block(a: &[u8], b: &[u8], out: &mut [u8]) -> u16
+    ensures { λ r. ⌜ (r ≡ numberOf (mixVerdict (now (a .entry)) (now (b .entry)) (now (out .entry)))) × (now (out .exit) ≡ afterMix (mixVerdict (now (a .entry)) (now (b .entry)) (now (out .entry))) (now (a .entry)) (now (b .entry)) (now (out .entry))) ⌝ }
+{
+    channels::mix_i16(a, b, out).number()
+}
