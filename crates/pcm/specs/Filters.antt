@@ -93,7 +93,7 @@ pub record TwoChannels (m : FilterMemory) : Type 0 where
 abbrev pub tapsAt : FilterMemory → ℕ → Taps
 tapsAt m c = record { x1 = getD (m .x1) c nan; x2 = getD (m .x2) c nan; y1 = getD (m .y1) c nan; y2 = getD (m .y2) c nan }
 
-two-of : (l : List Float) → length l ≡ 2 → l ≡ getD l 0 nan ∷ getD l 1 nan ∷ []
+pub two-of : (l : List Float) → length l ≡ 2 → l ≡ getD l 0 nan ∷ getD l 1 nan ∷ []
 two-of [] e = absurd (let z : ⊥ = omega (arith, e) in z)
 two-of (a ∷ []) e = absurd (let z : ⊥ = omega (arith, e) in z)
 two-of (a ∷ b ∷ []) e = refl
@@ -249,11 +249,11 @@ module _ {tick : Taps → ℤ → Taps} {ts₀ : List Taps} {input out₀ : List
         (λ _ _ v. rw n at (writing-put (writing-put v p (q ∙ ap (λ (u : Taps). roundSat 32768 32767 (u .y1)) el) (omega arith) room) p′ (q′ ∙ ap (λ (u : Taps). roundSat 32768 32767 (u .y1)) er) (omega arith) room)))
 
   -- the end of the input: the output is written, and the memory is that afterwards
-  pub filtering-end : {m : FilterMemory} {ch : ℕ} {ts : List Taps} {out : List ℕ} {i : ℕ}
-      → TwoChannels m → ts₀ ≡ tapsAt m 0 ∷ tapsAt m 1 ∷ [] → Filtering tick ch ts₀ input out₀ ts out i → length input ≤ i
-      → FilteredBlock tick ch m input out₀ out (memoryOf ts)
+  pub filtering-end : {m m′ : FilterMemory} {ch : ℕ} {ts : List Taps} {out : List ℕ} {i : ℕ}
+      → TwoChannels m → ts₀ ≡ tapsAt m 0 ∷ tapsAt m 1 ∷ [] → Filtering tick ch ts₀ input out₀ ts out i → length input ≤ i → m′ ≡ memoryOf ts
+      → FilteredBlock tick ch m input out₀ out m′
   unfolding bytesOf
-  filtering-end {m} {ch} {ts} {out} {i} two e r h =
+  filtering-end {m} {m′} {ch} {ts} {out} {i} two e r h p =
       let q : i ≡ length input = omega (arith, r .inside) in
       let held : ts₀ ≡ tapsOf m = e ∙ sym (taps-held m two) in
       let last : ts ≡ filterNext tick ts₀ (framesOf ch input) = sym (r .kept ∙ ap (filterNext tick ts) (ap (framesOf ch) (drop-of-length-le input h) ∙ frames-nil ch)) in
@@ -262,6 +262,6 @@ module _ {tick : Taps → ℤ → Taps} {ts₀ : List Taps} {input out₀ : List
           writing-end (λ l. bytesOf (filtered tick ts (framesOf ch l))) input i (r .output) h (ap (λ (fs : List Frame). bytesOf (filtered tick ts fs)) (frames-nil ch)) q
           ∙ ap (λ (us : List Taps). written (bytesOf (filtered tick us (framesOf ch input))) out₀) held;
         memory =
-          ap memoryOf last ∙ sym (next-of-taps tick ts₀ (framesOf ch input))
+          p ∙ ap memoryOf last ∙ sym (next-of-taps tick ts₀ (framesOf ch input))
           ∙ ap (λ (n : FilterMemory). memoryNext tick n (framesOf ch input)) (ap memoryOf e ∙ memory-held m two);
       }
