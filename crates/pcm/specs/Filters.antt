@@ -8,12 +8,29 @@ use native.Mathlib.Nat.{div-add-mod', zero-mod}
 use native.Mathlib.Omega.{arith}
 use lib.IntN.{ℤ, pos}
 use lib.ListN.{length, getD, take, drop, drop-of-length-le}
-use lib.Ieee.{Float, nan, fin}
+use lib.Ieee.{Float, nan, fin, binary32, add, sub, mul, div}
 use Rattle.pcm.specs.declared.filters.FilterMemory.{FilterMemory}
 use Rattle.pcm.specs.Rounding.{roundSat, round-fits}
 use Rattle.pcm.specs.Samples.{All, Samples, all-by-index, encode, encode-append, stored, sampleAt}
 use Rattle.pcm.specs.Frames.{Frame, FrameOf, FramesOf, framesOf, bytesOf, written, flat, length-frames, length-frame, length-bytes, frames-nil, frames-mono, frames-stereo}
 use Rattle.pcm.specs.Writing.{Writing, writing-start, writing-put, writing-as, writing-end, next-pair, next-four}
+
+-- the operations of binary32, each rounded once
+infixl 6 _⊕_
+abbrev pub _⊕_ : Float → Float → Float
+x ⊕ y = add binary32 x y
+
+infixl 6 _⊖_
+abbrev pub _⊖_ : Float → Float → Float
+x ⊖ y = sub binary32 x y
+
+infixl 7 _⊗_
+abbrev pub _⊗_ : Float → Float → Float
+x ⊗ y = mul binary32 x y
+
+infixl 7 _⊘_
+abbrev pub _⊘_ : Float → Float → Float
+x ⊘ y = div binary32 x y
 
 -- one channel's two earlier inputs and two earlier outputs
 pub record Taps : Type 0 where
