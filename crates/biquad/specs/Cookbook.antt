@@ -79,10 +79,38 @@ designAllowed kind rate sine cosine a =
 
 -- the cookbook's LPF, HPF, peakingEQ and notch: c is cos(w0), α is sin(w0) / (2 * Q), A is 10^(dBgain / 40)
 unfoldable pub cookbook : BiquadKind → Float → Float → Float → Section
-cookbook (LowPass f0 q) c α A = record { b0 = (one ⊖ c) ⊘ two; b1 = one ⊖ c; b2 = (one ⊖ c) ⊘ two; a0 = one ⊕ α; a1 = neg two ⊗ c; a2 = one ⊖ α }
-cookbook (HighPass f0 q) c α A = record { b0 = (one ⊕ c) ⊘ two; b1 = neg (one ⊕ c); b2 = (one ⊕ c) ⊘ two; a0 = one ⊕ α; a1 = neg two ⊗ c; a2 = one ⊖ α }
-cookbook (Peak f0 q db) c α A = record { b0 = one ⊕ α ⊗ A; b1 = neg two ⊗ c; b2 = one ⊖ α ⊗ A; a0 = one ⊕ α ⊘ A; a1 = neg two ⊗ c; a2 = one ⊖ α ⊘ A }
-cookbook (Notch f0 q) c α A = record { b0 = one; b1 = neg two ⊗ c; b2 = one; a0 = one ⊕ α; a1 = neg two ⊗ c; a2 = one ⊖ α }
+cookbook (LowPass f0 q) c α A = record {
+  b0 = (one ⊖ c) ⊘ two;
+  b1 = one ⊖ c;
+  b2 = (one ⊖ c) ⊘ two;
+  a0 = one ⊕ α;
+  a1 = neg two ⊗ c;
+  a2 = one ⊖ α;
+}
+cookbook (HighPass f0 q) c α A = record {
+  b0 = (one ⊕ c) ⊘ two;
+  b1 = neg (one ⊕ c);
+  b2 = (one ⊕ c) ⊘ two;
+  a0 = one ⊕ α;
+  a1 = neg two ⊗ c;
+  a2 = one ⊖ α;
+}
+cookbook (Peak f0 q db) c α A = record {
+  b0 = one ⊕ α ⊗ A;
+  b1 = neg two ⊗ c;
+  b2 = one ⊖ α ⊗ A;
+  a0 = one ⊕ α ⊘ A;
+  a1 = neg two ⊗ c;
+  a2 = one ⊖ α ⊘ A;
+}
+cookbook (Notch f0 q) c α A = record {
+  b0 = one;
+  b1 = neg two ⊗ c;
+  b2 = one;
+  a0 = one ⊕ α;
+  a1 = neg two ⊗ c;
+  a2 = one ⊖ α;
+}
 
 -- each divided by a0 and narrowed to binary32
 abbrev pub normalised : Section → Coefficients
@@ -100,6 +128,6 @@ unfoldable pub designAnswer : BiquadKind → ℕ → Float → Float → Float �
 designAnswer kind rate sine cosine a =
     cond (designAllowed kind rate sine cosine a) (Designed (normalised (cookbook kind cosine (sine ⊘ (two ⊗ quality kind)) a))) (Refused InvalidFormat)
 
--- a section of this numerator, with the denominator that the kinds share
-abbrev pub feedback : Float → Float → Float → Float → Float → Section
-feedback b0 b1 b2 c α = record { b0 = b0; b1 = b1; b2 = b2; a0 = one ⊕ α; a1 = neg two ⊗ c; a2 = one ⊖ α }
+-- the section with this numerator and the denominator that the kinds share
+abbrev pub withNumerator : Float → Float → Float → Float → Float → Section
+withNumerator b0 b1 b2 c α = record { b0 = b0; b1 = b1; b2 = b2; a0 = one ⊕ α; a1 = neg two ⊗ c; a2 = one ⊖ α }

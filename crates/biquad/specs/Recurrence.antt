@@ -7,7 +7,7 @@ use Rattle.biquad.specs.declared.Coefficients.{Coefficients}
 use Rattle.biquad.specs.declared.CoefficientBits.{CoefficientBits}
 
 -- (((b0 * x + b1 * x1) + b2 * x2) - a1 * y1) - a2 * y2
-unfoldable pub recurrence : Coefficients → Float → Float → Float → Float → Float → Float
+abbrev pub recurrence : Coefficients → Float → Float → Float → Float → Float → Float
 recurrence k x x1 x2 y1 y2 = (((k .b0 ⊗ x ⊕ k .b1 ⊗ x1) ⊕ k .b2 ⊗ x2) ⊖ k .a1 ⊗ y1) ⊖ k .a2 ⊗ y2
 
 -- a channel after the sample x: x2 takes x1, x1 takes x, y2 takes y1, y1 takes y

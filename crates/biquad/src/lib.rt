@@ -3,9 +3,8 @@ ghost use mathlib.Core.Path.{_≡_};
 ghost use mathlib.Core.Bool.{_&&_};
 ghost use lib.Ieee.{lt, le};
 ghost use Rattle.pcm.specs.Filters.{FilterBlock, FilteredBlock};
-ghost use Rattle.biquad.specs.Cookbook.{frequency, quality, gainAllowed, designAllowed, cookbook, feedback, normalised, designAnswer};
+ghost use Rattle.biquad.specs.Cookbook.{frequency, quality, gainAllowed, designAllowed, cookbook, withNumerator, normalised, designAnswer};
 ghost use Rattle.biquad.specs.Recurrence.{flat, recurrence, biquadTick, patterns, floats};
-
 use pcm::Error;
 use pcm::filters::FilterMemory;
 
@@ -136,11 +135,11 @@ impl BiquadKind {
         match self {
             BiquadKind::LowPass { f0: _, q: _ } => {
                 let half = (1.0 - cosine) / 2.0;
-                Section::over(half, 1.0 - cosine, half, cosine, alpha)
+                Section::with_numerator(half, 1.0 - cosine, half, cosine, alpha)
             }
             BiquadKind::HighPass { f0: _, q: _ } => {
                 let half = (1.0 + cosine) / 2.0;
-                Section::over(half, -(1.0 + cosine), half, cosine, alpha)
+                Section::with_numerator(half, -(1.0 + cosine), half, cosine, alpha)
             }
             BiquadKind::Peak {
                 f0: _,
@@ -148,10 +147,10 @@ impl BiquadKind {
                 gain_db: _,
             } => {
                 let boost = alpha * a;
-                Section::over(1.0 + boost, -2.0 * cosine, 1.0 - boost, cosine, alpha / a)
+                Section::with_numerator(1.0 + boost, -2.0 * cosine, 1.0 - boost, cosine, alpha / a)
             }
             BiquadKind::Notch { f0: _, q: _ } => {
-                Section::over(1.0, -2.0 * cosine, 1.0, cosine, alpha)
+                Section::with_numerator(1.0, -2.0 * cosine, 1.0, cosine, alpha)
             }
         }
     }
@@ -178,9 +177,9 @@ fn within(x: f64, low: f64, high: f64) -> bool
 }
 
 impl Section {
-    // The denominator is the same for every kind, Peak's with alpha / a for alpha.
-    fn over(b0: f64, b1: f64, b2: f64, cosine: f64, alpha: f64) -> Section
-        ensures { λ s. ⌜ s ≡ feedback b0 b1 b2 cosine alpha ⌝ }
+    // The kinds share their denominator; Peak has alpha / a for alpha.
+    fn with_numerator(b0: f64, b1: f64, b2: f64, cosine: f64, alpha: f64) -> Section
+        ensures { λ s. ⌜ s ≡ withNumerator b0 b1 b2 cosine alpha ⌝ }
     {
         Section {
             b0,

@@ -1,5 +1,5 @@
 -- One sample of one channel, as the loops take it. Assumes nothing.
-use mathlib.Core.Path.{_≡_, refl, ap₂, _∙_}
+use mathlib.Core.Path.{_≡_}
 use lib.IntN.{ℤ}
 use lib.Ieee.{Float, binary32, ofInt}
 use Rattle.pcm.specs.Filters.{Taps}

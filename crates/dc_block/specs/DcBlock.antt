@@ -11,7 +11,7 @@ use Rattle.dc_block.specs.declared.PoleAnswer.{PoleAnswer}
 use Rattle.dc_block.specs.declared.PoleAnswer.the-variants.{Pole, Refused}
 
 -- (x - x1) + r * y1
-unfoldable pub blocked : Float → Float → Float → Float → Float
+abbrev pub blocked : Float → Float → Float → Float → Float
 blocked r x x1 y1 = (x ⊖ x1) ⊕ r ⊗ y1
 
 -- a channel after the sample x: x1 takes x, y1 takes y; x2 and y2 are no part of this filter's sound state

@@ -5,10 +5,10 @@ use lib.IntN.{pos, negsuc}
 use lib.Ieee.{binary32, ofInt, div, add, sub, mul, round}
 use Rattle.pcm.specs.Rounding.{roundSat, halfUp}
 use Rattle.pcm.specs.Filters.{_⊘_, atRest, filtered}
-use Rattle.dc_block.specs.DcBlock.{blocked, dcTick}
+use Rattle.dc_block.specs.DcBlock.{dcTick}
 
 -- r one half, samples 100, 100, 0: 100, 50, -75
 pub one-half : filtered (dcTick (ofInt binary32 (pos 1) ⊘ ofInt binary32 (pos 2))) (atRest ∷ []) ((pos 100 ∷ []) ∷ (pos 100 ∷ []) ∷ (pos 0 ∷ []) ∷ [])
     ≡ (pos 100 ∷ []) ∷ (pos 50 ∷ []) ∷ (negsuc 74 ∷ []) ∷ []
-unfolding blocked dcTick roundSat halfUp ofInt div add sub mul round
+unfolding dcTick roundSat halfUp ofInt div add sub mul round
 one-half = refl

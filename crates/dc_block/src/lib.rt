@@ -2,14 +2,11 @@
 ghost use mathlib.Core.Path.{_≡_};
 ghost use mathlib.Core.Bool.{true};
 ghost use lib.IntN.{pos};
-ghost use lib.ListN.{length};
 ghost use lib.Ieee.{binary32, ofBits, ofInt};
-ghost use Prim.Native.Nat.{_≤_, _%_};
 ghost use Rattle.pcm.specs.Floats.{patternOf};
 ghost use Rattle.pcm.specs.Formats.{rateAllowed};
 ghost use Rattle.pcm.specs.Filters.{FilterBlock, FilteredBlock};
 ghost use Rattle.dc_block.specs.DcBlock.{blocked, dcTick, poleOf, poleAnswer, untuned};
-
 use pcm::Error;
 use pcm::filters::FilterMemory;
 

@@ -1,18 +1,18 @@
 -- A filter on frames, each channel by its own memory (document 01, 'The whole stream'). A filter is its `tick`: one channel's taps
 -- after a sample. Assumes nothing.
-use mathlib.Core.Path.{_≡_, refl, sym, ap, ap₂, _∙_, subst}
+use mathlib.Core.Path.{_≡_, refl, sym, ap, _∙_, subst}
 use mathlib.Core.Bool.{false}
 use mathlib.Core.List.{List, [], _∷_, _++_, map}
-use Prim.Native.Nat.{ℕ, zero, suc, _+_, _*_, _/_, _%_, _≤_, _<_}
+use Prim.Native.Nat.{ℕ, suc, _+_, _*_, _/_, _%_, _≤_, _<_}
 use native.Mathlib.Nat.{div-add-mod', zero-mod}
 use native.Mathlib.Omega.{arith}
 use lib.IntN.{ℤ, pos}
-use lib.ListN.{length, getD, take, drop, drop-of-length-le}
+use lib.ListN.{length, getD, drop, drop-of-length-le}
 use lib.Ieee.{Float, nan, fin, binary32, add, sub, mul, div}
 use Rattle.pcm.specs.declared.filters.FilterMemory.{FilterMemory}
 use Rattle.pcm.specs.Rounding.{roundSat, round-fits}
 use Rattle.pcm.specs.Samples.{All, Samples, all-by-index, encode, encode-append, stored, sampleAt}
-use Rattle.pcm.specs.Frames.{Frame, FrameOf, FramesOf, framesOf, bytesOf, written, flat, length-frames, length-frame, length-bytes, frames-nil, frames-mono, frames-stereo}
+use Rattle.pcm.specs.Frames.{Frame, FramesOf, framesOf, bytesOf, written, flat, length-frames, length-frame, length-bytes, frames-nil, frames-mono, frames-stereo}
 use Rattle.pcm.specs.Writing.{Writing, writing-start, writing-put, writing-as, writing-end, next-pair, next-four}
 
 -- the operations of binary32, each rounded once
@@ -125,6 +125,16 @@ module _ (m : FilterMemory) (two : TwoChannels m) where
 
 -- ---- laws of a stream
 module _ (tick : Taps → ℤ → Taps) where
+  -- nothing from nothing
+  pub filtered-nil : (ts : List Taps) → filtered tick ts [] ≡ []
+  filtered-nil ts = refl
+
+  pub filter-next-nil : (ts : List Taps) → filterNext tick ts [] ≡ ts
+  filter-next-nil ts = refl
+
+  pub memory-next-nil : (m : FilterMemory) → memoryNext tick m [] ≡ m
+  memory-next-nil m = refl
+
   -- a stream in two parts gives what the whole gives
   pub filtered-append : (ts : List Taps) (xs ys : List Frame) → filtered tick ts (xs ++ ys) ≡ filtered tick ts xs ++ filtered tick (filterNext tick ts xs) ys
   filtered-append ts [] ys = refl
@@ -191,8 +201,8 @@ module _ (tick : Taps → ℤ → Taps) where
 -- ---- a block of bytes
 -- what a call on a block takes: one or two channels, whole frames, and room
 pub record FilterBlock (channels : ℕ) (input out : List ℕ) : Type 0 where
-  pub some : 0 < channels
-  pub few : channels ≤ 2
+  pub at-least-one : 0 < channels
+  pub at-most-two : channels ≤ 2
   pub whole : length input % (channels * 2) ≡ 0
   pub room : length input ≤ length out
 
@@ -276,9 +286,9 @@ module _ {tick : Taps → ℤ → Taps} {ts₀ : List Taps} {input out₀ : List
       let last : ts ≡ filterNext tick ts₀ (framesOf ch input) = sym (r .kept ∙ ap (filterNext tick ts) (ap (framesOf ch) (drop-of-length-le input h) ∙ frames-nil ch)) in
       record {
         bytes =
-          writing-end (λ l. bytesOf (filtered tick ts (framesOf ch l))) input i (r .output) h (ap (λ (fs : List Frame). bytesOf (filtered tick ts fs)) (frames-nil ch)) q
-          ∙ ap (λ (us : List Taps). written (bytesOf (filtered tick us (framesOf ch input))) out₀) held;
+            writing-end (λ l. bytesOf (filtered tick ts (framesOf ch l))) input i (r .output) h (ap (λ (fs : List Frame). bytesOf (filtered tick ts fs)) (frames-nil ch)) q
+            ∙ ap (λ (us : List Taps). written (bytesOf (filtered tick us (framesOf ch input))) out₀) held;
         memory =
-          p ∙ ap memoryOf last ∙ sym (next-of-taps tick ts₀ (framesOf ch input))
-          ∙ ap (λ (n : FilterMemory). memoryNext tick n (framesOf ch input)) (ap memoryOf e ∙ memory-held m two);
+            p ∙ ap memoryOf last ∙ sym (next-of-taps tick ts₀ (framesOf ch input))
+            ∙ ap (λ (n : FilterMemory). memoryNext tick n (framesOf ch input)) (ap memoryOf e ∙ memory-held m two);
       }

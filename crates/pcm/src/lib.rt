@@ -8,7 +8,6 @@ ghost use Rattle.pcm.specs.Samples.{held16, sampleOf, sampleAt, stored};
 ghost use Rattle.pcm.specs.Rounding.{roundSat};
 
 pub mod filters;
-
 pub mod floats;
 
 pub const MAX_CHANNELS: u16 = 2;

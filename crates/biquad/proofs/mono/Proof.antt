@@ -4,7 +4,6 @@ use mathlib.Core.Path.{refl}
 use mathlib.Core.List.{[], _∷_}
 use Prim.Native.Nat.{_-_}
 use native.Mathlib.Omega.{arith}
-use lib.ListN.{getD}
 use mir.Syntax.{w16}
 use Rattle.pcm.specs.Integers.{answered}
 use Rattle.pcm.specs.Filters.{TwoChannels, tapsAt, Filtering, filtering-start, filtering-mono, filtering-end}

@@ -1,10 +1,10 @@
 -- `dc_block::stereo` meets its contract. Assumes nothing.
 use borrow.Author.Needs.{needs}
-use mathlib.Core.Path.{_≡_, refl}
-use mathlib.Core.List.{List, [], _∷_}
-use Prim.Native.Nat.{_+_, _-_, _%_, _≤_, _<_}
+use mathlib.Core.Path.{refl}
+use mathlib.Core.List.{[], _∷_}
+use Prim.Native.Nat.{_-_}
 use native.Mathlib.Omega.{arith}
-use lib.ListN.{length, getD}
+use lib.ListN.{getD}
 use lib.Ieee.{nan}
 use mir.Syntax.{w16}
 use Rattle.pcm.specs.Integers.{answered}

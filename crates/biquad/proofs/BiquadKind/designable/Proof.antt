@@ -1,9 +1,9 @@
 -- `biquad::BiquadKind::designable` meets its contract: each way out rewrites with the answers that led there. Assumes nothing.
 use borrow.Author.Needs.{needs}
-use mathlib.Core.Path.{_≡_, refl, sym, ap, _∙_}
-use mathlib.Core.Bool.{Bool, true, false, _&&_}
+use mathlib.Core.Path.{_≡_, sym, ap, _∙_}
+use mathlib.Core.Bool.{true, _&&_}
 use lib.IntN.{pos}
-use lib.Ieee.{Float, binary64, lt, le, neg, ofBits, ofInt, round}
+use lib.Ieee.{Float, binary64, lt, ofBits, ofInt, round}
 use Rattle.pcm.specs.Formats.{rateAllowed}
 use Rattle.biquad.specs.Cookbook.{designAllowed, frequencyAllowed, qualityAllowed, cosineAllowed, sineAllowed, zero, two, _⊘_}
 use Rattle.biquad.proofs.BiquadKind.designable.Statement.{statement}

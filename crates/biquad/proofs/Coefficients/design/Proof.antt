@@ -2,7 +2,7 @@
 use borrow.Author.Needs.{needs}
 use mathlib.Core.Path.{_≡_, sym, ap, _∙_}
 use lib.Ieee.{Float, ofBits, ofInt, round}
-use Rattle.biquad.specs.Cookbook.{designAnswer, designAllowed, cookbook, normalised, quality, two, _⊗_, _⊘_}
+use Rattle.biquad.specs.Cookbook.{designAnswer, cookbook, normalised, quality, two, _⊗_, _⊘_}
 use Rattle.biquad.specs.declared.DesignAnswer.the-variants.{Designed}
 use Rattle.biquad.proofs.Coefficients.design.Statement.{statement}
 use Rattle.biquad.proofs.Coefficients.design.Tie as tie

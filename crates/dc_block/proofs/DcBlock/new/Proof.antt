@@ -1,9 +1,6 @@
 -- `dc_block::DcBlock::new` meets its contract. Assumes nothing.
 use borrow.Author.Needs.{needs}
-use mathlib.Core.Path.{refl, ap, _∙_}
 use lib.Ieee.{ofBits, ofInt, round}
-use Rattle.pcm.specs.Floats.{patternOf}
-use Rattle.dc_block.specs.DcBlock.{untuned}
 use Rattle.dc_block.proofs.DcBlock.new.Statement.{statement}
 use Rattle.dc_block.proofs.DcBlock.new.Tie as tie
 

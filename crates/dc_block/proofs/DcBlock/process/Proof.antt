@@ -13,7 +13,7 @@ returns c = let at-call = c .before .before in rw (at-call .before .before .if1 
 
 -- neither none nor one, and at most two
 two : (c : tie.Else1) → c .before .before .before .args .channels ≡ 2
-two c = omega (arith, c .if1 .left, c .before .before .before .pre .some, c .before .before .before .pre .few)
+two c = omega (arith, c .if1 .left, c .before .before .before .pre .at-least-one, c .before .before .before .pre .at-most-two)
 
 stereo-requires : tie.Need-stereo-requires
 stereo-requires c κs = rw (two (c .before)) at (c .before .before .before .before .pre)

@@ -1,6 +1,5 @@
 -- `dc_block::DcBlock::tuned` meets its contract. Assumes nothing.
 use borrow.Author.Needs.{needs}
-use mathlib.Core.Path.{ap, _∙_}
 use Rattle.dc_block.proofs.DcBlock.tuned.Statement.{statement}
 use Rattle.dc_block.proofs.DcBlock.tuned.Tie as tie
 
