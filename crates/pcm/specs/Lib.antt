@@ -6,3 +6,4 @@ pub mod Floats
 pub mod Samples
 pub mod Frames
 pub mod Writing
+pub mod Filters

@@ -8,6 +8,7 @@ ghost use Rattle.pcm.specs.Samples.{held16, sampleOf, sampleAt, stored};
 ghost use Rattle.pcm.specs.Frames.{written};
 ghost use Rattle.pcm.specs.Rounding.{roundSat};
 
+pub mod filters;
 pub mod floats;
 
 pub const MAX_CHANNELS: u16 = 2;

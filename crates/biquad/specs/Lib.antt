@@ -1,0 +1,2 @@
+pub mod Cookbook
+pub mod Recurrence

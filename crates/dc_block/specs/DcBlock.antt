@@ -1,0 +1,35 @@
+-- The DC block (document 01, dc_block.rs): each operation rounded once in binary32, in the order written. Definitions only.
+use mathlib.Core.Bool.{cond}
+use Prim.Native.Nat.{ℕ}
+use lib.IntN.{ℤ, pos}
+use lib.Ieee.{Float, binary32, ofInt, ofBits}
+use Rattle.pcm.specs.declared.Error.the-variants.{InvalidFormat}
+use Rattle.pcm.specs.Formats.{rateAllowed}
+use Rattle.pcm.specs.Filters.{Taps, plusZero, _⊕_, _⊖_, _⊗_, _⊘_}
+use Rattle.dc_block.specs.declared.DcBlock.{DcBlock}
+use Rattle.dc_block.specs.declared.PoleAnswer.{PoleAnswer}
+use Rattle.dc_block.specs.declared.PoleAnswer.the-variants.{Pole, Refused}
+
+-- (x - x1) + r * y1
+abbrev pub blocked : Float → Float → Float → Float → Float
+blocked r x x1 y1 = (x ⊖ x1) ⊕ r ⊗ y1
+
+-- a channel after the sample x: x1 takes x, y1 takes y; x2 and y2 are no part of this filter's sound state
+unfoldable pub dcTick : Float → Taps → ℤ → Taps
+dcTick r t x = record { x1 = ofInt binary32 x; x2 = t .x2; y1 = blocked r (ofInt binary32 x) (t .x1) (t .y1); y2 = t .y2 }
+
+-- 2π as a binary32
+abbrev pub tau : Float
+tau = ofBits binary32 0x40c9_0fdb
+
+-- 1 - (TAU * corner) / rate
+unfoldable pub poleOf : Float → ℕ → Float
+poleOf corner rate = ofInt binary32 (pos 1) ⊖ (tau ⊗ corner) ⊘ ofInt binary32 (pos rate)
+
+-- is the rate within its limit? else 1
+unfoldable pub poleAnswer : Float → ℕ → PoleAnswer
+poleAnswer corner rate = cond (rateAllowed rate) (Pole (poleOf corner rate)) (Refused InvalidFormat)
+
+-- a filter of this corner before a rate is known
+abbrev pub untuned : ℕ → DcBlock
+untuned corner = record { corner = corner; r = plusZero }

@@ -1,0 +1,2 @@
+pub mod DcBlock
+pub mod Examples
