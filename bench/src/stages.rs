@@ -2,13 +2,13 @@
 
 use crate::kernels;
 use crate::timing::Case;
-use oracle::elements::{Gain, MonoToStereo, StereoToMono, mix_i16};
+use oracle::elements::{Biquad, BiquadKind, Coefficients, DcBlock, Gain, MonoToStereo, StereoToMono, mix_i16};
 use oracle::esp_core::pcm::{PcmBlock, PcmFormat, SampleFormat};
 use oracle::pipeline::Element;
 use std::cell::RefCell;
 
 fn process(stage: &mut dyn Element, channels: u16, input: &[u8], out: &mut [u8]) -> usize {
-    let format = PcmFormat { sample_rate_hz: 16_000, channels, sample: SampleFormat::I16 };
+    let format = PcmFormat { sample_rate_hz: RATE, channels, sample: SampleFormat::I16 };
     stage.process(PcmBlock { format, timestamp: 0, data: input }, out).unwrap()
 }
 
@@ -23,8 +23,47 @@ fn gain(name: &'static str, q15: i32, goal: f64) -> Case {
     }
 }
 
+const RATE: u32 = 16_000;
+
+fn dc_block(name: &'static str, channels: u16) -> Case {
+    let stage = RefCell::new(DcBlock::new());
+    let r = DcBlock::pole(20.0, RATE);
+    Case {
+        name,
+        channels: channels.into(),
+        goal: [None, Some(1.0), Some(1.0)],
+        source: Box::new(move |input, out| {
+            let stage = &mut *stage.borrow_mut();
+            stage.reset();
+            process(stage, channels, input, out)
+        }),
+        ours: Box::new(move |input, out| kernels::dc_block(r, channels.into(), input, out)),
+    }
+}
+
+fn biquad(name: &'static str, channels: u16) -> Case {
+    let kind = BiquadKind::LowPass { f0: 3_000.0, q: 0.707 };
+    let stage = RefCell::new(Biquad::new(kind));
+    let k = Coefficients::design(kind, RATE).unwrap();
+    Case {
+        name,
+        channels: channels.into(),
+        goal: [None, Some(1.0), Some(1.0)],
+        source: Box::new(move |input, out| {
+            let stage = &mut *stage.borrow_mut();
+            stage.reset();
+            process(stage, channels, input, out)
+        }),
+        ours: Box::new(move |input, out| kernels::biquad(k, channels.into(), input, out)),
+    }
+}
+
 pub fn all() -> Vec<Case> {
     vec![
+        dc_block("DC block, mono", 1),
+        dc_block("DC block, stereo", 2),
+        biquad("biquad, mono", 1),
+        biquad("biquad, stereo", 2),
         gain("gain 16,384", 16_384, 1.1),
         gain("gain 65,535", 65_535, 1.1),
         gain("gain -65,535", -65_535, 1.1),

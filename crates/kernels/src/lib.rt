@@ -3,11 +3,18 @@ ghost use mathlib.Core.Path.{_≡_};
 ghost use Prim.Native.Nat.{_*_, _/_, _%_, _≤_};
 ghost use lib.IntN.{natAbs};
 ghost use lib.ListN.{length};
-ghost use Rattle.pcm.specs.Frames.{written};
+ghost use Rattle.pcm.specs.Frames.{framesOf, bytesOf, written};
+ghost use Rattle.pcm.specs.Filters.{FilterBlock, filtered, tapsOf, memoryAtRest};
+ghost use Rattle.dc_block.specs.DcBlock.{dcTick};
+ghost use Rattle.biquad.specs.Recurrence.{biquadTick};
 ghost use Rattle.gain.specs.Gain.{scaledBytes};
 ghost use Rattle.channels.specs.Channels.{stereoBytes, monoBytes, mixVerdict, afterMix};
 ghost use Rattle.pcm.specs.Refusals.{numberOf};
+use biquad::Biquad;
+use biquad::Coefficients;
+use dc_block::DcBlock;
 use gain::Gain;
+use pcm::filters::FilterMemory;
 
 #[no_mangle]
 pub extern "C" fn gain_block(q15: i32, input: &[u8], out: &mut [u8])
@@ -39,4 +46,33 @@ pub extern "C" fn mix_block(a: &[u8], b: &[u8], out: &mut [u8]) -> u16
     ensures { λ r. ⌜ (r ≡ numberOf (mixVerdict (now (a .entry)) (now (b .entry)) (now (out .entry)))) × (now (out .exit) ≡ afterMix (mixVerdict (now (a .entry)) (now (b .entry)) (now (out .entry))) (now (a .entry)) (now (b .entry)) (now (out .entry))) ⌝ }
 {
     channels::mix_i16(a, b, out).number()
+}
+
+// From a memory at rest.
+#[no_mangle]
+pub extern "C" fn dc_block_block(r: f32, channels: usize, input: &[u8], out: &mut [u8])
+    requires { ⌜ FilterBlock channels (now input) (now out) ⌝ }
+    ensures { λ _. ⌜ now (out .exit) ≡ written (bytesOf (filtered (dcTick r) (tapsOf memoryAtRest) (framesOf channels (now (input .entry))))) (now (out .entry)) ⌝ }
+{
+    let stage = DcBlock { corner: 0, r };
+    stage.process(input, out, channels, FilterMemory::new());
+}
+
+// From a memory at rest.
+#[no_mangle]
+pub extern "C" fn biquad_block(
+    b0: f32,
+    b1: f32,
+    b2: f32,
+    a1: f32,
+    a2: f32,
+    channels: usize,
+    input: &[u8],
+    out: &mut [u8],
+)
+    requires { ⌜ FilterBlock channels (now input) (now out) ⌝ }
+    ensures { λ _. ⌜ now (out .exit) ≡ written (bytesOf (filtered (biquadTick (record { b0 = b0; b1 = b1; b2 = b2; a1 = a1; a2 = a2 })) (tapsOf memoryAtRest) (framesOf channels (now (input .entry))))) (now (out .entry)) ⌝ }
+{
+    let stage = Biquad::new(1, Coefficients { b0, b1, b2, a1, a2 });
+    stage.process(input, out, channels, FilterMemory::new());
 }

@@ -19,7 +19,7 @@ use lib.Ieee.Fits.{down-pos}
 use lib.Ieee.Exact.{HasValue, odd-sign}
 use lib.Ieee.Nearest.{div-same}
 use Rattle.pcm.proofs.Nan.{lt-or-ge, pattern-in}
-use Rattle.pcm.specs.Rounding.{halfUp, magnitude, roundSat}
+use Rattle.pcm.specs.Rounding.{halfUp, magnitude, roundSat, halfUp-ge}
 
 -- ---- `halfUp` is one division, and equal fractions give the same number
 pub halfUp-is : (n d : ℕ) → 0 < d → halfUp n d ≡ (n * 2 + d) / (d * 2)
@@ -53,10 +53,6 @@ halfUp-same a b c d B D h =
 
 halfUp-zero : (n d : ℕ) → n * 2 < d → halfUp n d ≡ 0
 halfUp-zero n d h = halfUp-is n d (omega arith) ∙ div-eq-of-lt (omega arith)
-
-halfUp-ge : (k n d : ℕ) → 0 < d → k * d ≤ n → k ≤ halfUp n d
-unfolding halfUp
-halfUp-ge k n d D h = le-trans (le-div-iff-mul-le D .1 h) (le-add-right (n / d) _)
 
 -- ---- what the shift computes: the last digit shifted out is the half
 pub shifted : (m j : ℕ) → (m * 8 / 2 ^ j + 1) / 2 ≡ halfUp (m * 4) (2 ^ j)
@@ -213,8 +209,8 @@ module _ (lo hi : ℕ) (lo-in : lo ≤ 33554432) (hi-in : hi ≤ 33554432) where
 
   -- q is what `nearest` says of the pattern of x
   module _ (x : Float) (f : T (fits binary32 x)) (n : T (not (isNan x))) (q : ℕ) (k : min q 33554432 ≡ min (magnitude (ofBits binary32 (toBits binary32 x))) 33554432) where
-    both : roundSat lo hi x ≡ cond (leb 2147483648 (toBits binary32 x)) (negℤ (pos (min q lo))) (pos (min q hi))
-    both =
+    pub by-sign : roundSat lo hi x ≡ cond (leb 2147483648 (toBits binary32 x)) (negℤ (pos (min q lo))) (pos (min q hi))
+    by-sign =
         let b = toBits binary32 x in
         let e : ofBits binary32 b ≡ x = ofBits-toBits binary32 x f in
         let signed : Signed (ofBits binary32 b) (leb 2147483648 b) =
@@ -225,27 +221,6 @@ module _ (lo hi : ℕ) (lo-in : lo ≤ 33554432) (hi-in : hi ≤ 33554432) where
         ∙ ap (λ (v : ℕ). cond (leb 2147483648 b) (negℤ (pos v)) (pos (min (min q 33554432) hi))) (inner q lo lo-in)
         ∙ ap (λ (v : ℕ). cond (leb 2147483648 b) (negℤ (pos (min q lo))) (pos v)) (inner q hi hi-in)
 
-    pub plus : toBits binary32 x < 2147483648 → roundSat lo hi x ≡ pos (min q hi)
-    plus h = both ∙ ap (λ (t : Bool). cond t (negℤ (pos (min q lo))) (pos (min q hi))) (lt-leb 2147483648 (toBits binary32 x) h)
-
-    pub minus : 2147483648 ≤ toBits binary32 x → roundSat lo hi x ≡ negℤ (pos (min q lo))
-    minus h = both ∙ ap (λ (t : Bool). cond t (negℤ (pos (min q lo))) (pos (min q hi))) (le-leb 2147483648 (toBits binary32 x) h)
-
 pub of-nan : (lo hi : ℕ) (x : Float) → x ≡ nan → pos 0 ≡ roundSat lo hi x
 unfolding roundSat
 of-nan lo hi x e = sym (ap (roundSat lo hi) e)
-
--- ---- the machine's negation of a number that is not negative
-module _ (w : Width) (q : ℕ) (h : q < 2 ^ hbits w) where
-  negated : pos 0 -ℤ toZ w q ≡ negℤ (pos q)
-  negated = ap (λ (z : ℤ). pos 0 -ℤ z) (toZ-pos w h) ∙ +ℤ-idl (negℤ (pos q))
-
-  pub negated-fits : SFits w (pos 0 -ℤ toZ w q)
-  negated-fits = subst (SFits w) (sym negated) (record { sfits = go q h })
-    where
-      go : (q : ℕ) → q < 2 ^ hbits w → mag (negℤ (pos q)) < 2 ^ hbits w
-      go zero h = h
-      go (suc q) h = le-trans (le-suc (suc q)) h
-
-  pub negated-is : toZ w (ofZ w (pos 0 -ℤ toZ w q)) ≡ negℤ (pos q)
-  negated-is = toZ-ofZ negated-fits ∙ negated

@@ -1,10 +1,13 @@
 // Floats by their bits: patterns, rounding to whole numbers, and narrowing to binary32.
 ghost use mathlib.Core.Path.{_≡_};
 ghost use Prim.Native.Nat.{_≤_, _<_, _-_, _%_, _^_, min, max};
+ghost use mathlib.Core.Bool.{cond};
+ghost use lib.Dec.{leb};
+ghost use lib.IntN.{pos, negℤ};
 ghost use lib.Ieee.{binary32, ofBits};
 ghost use lib.Ieee.Nearest.{closest};
 ghost use Rattle.pcm.specs.Floats.{patternOf, narrowed};
-ghost use Rattle.pcm.specs.Rounding.{magnitude, roundSat};
+ghost use Rattle.pcm.specs.Rounding.{magnitude, roundSat, atLeast, atMost, heldFloat};
 
 // The float that a pattern stands for; every NaN's pattern gives a NaN.
 pub fn float_of_bits(n: u32) -> f32
@@ -51,12 +54,43 @@ pub fn round_held(x: f32, low: u32, high: u32) -> i32
         return 0;
     }
     let b = f32::to_bits(x);
-    let n = nearest(b);
-    if b < 0x8000_0000 {
-        least(n, high) as i32
-    } else {
-        0 - (least(n, low) as i32)
-    }
+    let k = least(nearest(b), limit(b, low, high));
+    signed(k, b)
+}
+
+// The limit on the side of a pattern's sign.
+fn limit(b: u32, low: u32, high: u32) -> u32
+    ensures { λ r. ⌜ r ≡ cond (leb 0x8000_0000 b) low high ⌝ }
+{
+    if b < 0x8000_0000 { high } else { low }
+}
+
+// A magnitude with a pattern's sign, by a product: no branch waits for it.
+fn signed(k: u32, b: u32) -> i32
+    requires { ⌜ k ≤ 33554432 ⌝ }
+    ensures { λ r. ⌜ r ≡ cond (leb 0x8000_0000 b) (negℤ (pos k)) (pos k) ⌝ }
+{
+    (k as i32) * (1 - 2 * ((b / 0x8000_0000) as i32))
+}
+
+// The greater of the two, and the lesser; a NaN stays.
+fn at_least(x: f32, low: f32) -> f32
+    ensures { λ r. ⌜ r ≡ atLeast low x ⌝ }
+{
+    if x < low { low } else { x }
+}
+
+fn at_most(x: f32, high: f32) -> f32
+    ensures { λ r. ⌜ r ≡ atMost high x ⌝ }
+{
+    if high < x { high } else { x }
+}
+
+// x held within the sample range, a NaN as it is: sound that is too loud then takes the same way as other sound.
+pub fn hold16(x: f32) -> f32
+    ensures { λ r. ⌜ r ≡ heldFloat x ⌝ }
+{
+    at_most(at_least(x, -32768.0), 32767.0)
 }
 
 // m / 2^k to the nearest whole number, a tie to the even one.

@@ -152,7 +152,7 @@ pub fn sat16(v: i32) -> i16
 pub fn round_sat16(v: f32) -> i16
     ensures { λ r. ⌜ r ≡ roundSat 32768 32767 v ⌝ }
 {
-    floats::round_held(v, 32768, 32767) as i16
+    floats::round_held(floats::hold16(v), 32768, 32767) as i16
 }
 
 // The sample that two bytes hold.

@@ -1,0 +1,11 @@
+-- `kernels::biquad_block` meets its contract. Assumes nothing.
+use borrow.Author.Needs.{needs}
+use mathlib.Core.Path.{_≡_}
+use Rattle.kernels.proofs.biquad_block.Statement.{statement}
+use Rattle.kernels.proofs.biquad_block.Tie as tie
+
+returns : tie.Need-returns
+returns c = let call = c .before .before in rw (call .before .before .before .new .ensures, call .before .new2 .ensures) at (call .process .ensures .bytes)
+
+pub biquad-block-spec : {M : Type 1} → statement M
+biquad-block-spec = tie.close (tie.spec (λ c κs. search needs) (λ c κs. search needs) (λ c κs. search needs) (λ c. search needs) returns)
