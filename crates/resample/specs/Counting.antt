@@ -72,10 +72,6 @@ module _ (i : ℕ) (hi : 0 < i) where
       no-way : count i p D ≤ j → ⊥
       no-way k = omega (arith, count-reach p D, mul-le-mul-right i k)
 
-  -- from a later start no more
-  pub count-from-zero-most : (p D : ℕ) → count i p D ≤ count i 0 D
-  count-from-zero-most p D = count-least p D (count i 0 D) (omega (arith, count-reach 0 D))
-
   pub past-is : (p D : ℕ) → past i p D + D ≡ p + count i p D * i
   past-is p D = omega (arith, count-reach p D)
 
@@ -134,8 +130,9 @@ count-sum i p D E = by-step (λ n. count n p (D + E) ≡ count n p D + count n (
 pub past-sum : (i p D E : ℕ) → past i p (D + E) ≡ past i (past i p D) E
 past-sum i p D E = by-step (λ n. past n p (D + E) ≡ past n (past n p D) E) (omega arith) (λ n h. past-add n h p D E) i
 
-pub count-nil : (i p : ℕ) → count i p 0 ≡ 0
-count-nil i p = by-step (λ n. count n p 0 ≡ 0) (count-none p 0) (λ n h. let e : count n p 0 ≤ 0 = count-least n h p 0 0 zero-le in omega arith) i
+-- nothing counts from the limit on
+pub count-none-past : (i p D : ℕ) → D ≤ p → count i p D ≡ 0
+count-none-past i p D l = by-step (λ n. count n p D ≡ 0) (count-none p D) (λ n h. let e : count n p D ≤ 0 = count-least n h p D 0 (omega arith) in omega arith) i
 
 pub factor : (n o num : ℕ) → num < n * o → 0 < o
 factor n o num h = pick (eq-zero-or-pos o)
@@ -144,21 +141,21 @@ factor n o num h = pick (eq-zero-or-pos o)
     pick (inl e) = absurd (omega (arith, rw e at h))
     pick (inr k) = k
 
+-- ---- laws: ceilings
+pub ceil-is-count : (i D : ℕ) → count i 0 D ≡ ceilDiv D i
+ceil-is-count i D = let e : D - 0 ≡ D = omega arith in rw e
+
+module _ (i : ℕ) (hi : 0 < i) where
+  pub ceil-reach : (n : ℕ) → n ≤ ceilDiv n i * i
+  ceil-reach n = omega (arith, rw (ceil-is-count i n) at (count-reach i hi 0 n))
+
+  pub ceil-least : (n m : ℕ) → n ≤ m * i → ceilDiv n i ≤ m
+  ceil-least n m k = rw (ceil-is-count i n) at (count-least i hi 0 n m (omega arith))
+
 -- a factor of both falls out of a ceiling
 pub ceil-scale : (a b g : ℕ) → 0 < b → 0 < g → ceilDiv (a * g) (b * g) ≡ ceilDiv a b
-ceil-scale a b g hb hg = le-antisymm (least (b * g) bg (a * g) (ceilDiv a b) up) (least b hb a (ceilDiv (a * g) (b * g)) (le-of-mul-le-mul-right down hg))
-  where
-    bg : 0 < b * g
-    bg = omega (arith, mul-le-mul-right g hb)
-
-    reach : (d : ℕ) → 0 < d → (n : ℕ) → n ≤ ceilDiv n d * d
-    reach d h n = let e : n - 0 ≡ n = omega arith in omega (arith, rw e at (count-reach d h 0 n))
-
-    least : (d : ℕ) → 0 < d → (n m : ℕ) → n ≤ m * d → ceilDiv n d ≤ m
-    least d h n m k = let e : n - 0 ≡ n = omega arith in rw e at (count-least d h 0 n m (omega arith))
-
-    up : a * g ≤ ceilDiv a b * (b * g)
-    up = omega (arith, mul-le-mul-right g (reach b hb a))
-
-    down : a * g ≤ ceilDiv (a * g) (b * g) * b * g
-    down = omega (arith, reach (b * g) bg (a * g))
+ceil-scale a b g hb hg =
+    let bg : 0 < b * g = omega (arith, mul-le-mul-right g hb) in
+    let up : a * g ≤ ceilDiv a b * (b * g) = omega (arith, mul-le-mul-right g (ceil-reach b hb a)) in
+    let down : a * g ≤ ceilDiv (a * g) (b * g) * b * g = omega (arith, ceil-reach (b * g) bg (a * g)) in
+    le-antisymm (ceil-least (b * g) bg (a * g) (ceilDiv a b) up) (ceil-least b hb a (ceilDiv (a * g) (b * g)) (le-of-mul-le-mul-right down hg))

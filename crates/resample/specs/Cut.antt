@@ -3,15 +3,15 @@ use mathlib.Core.Path.{_≡_, refl, sym, ap, ap₂, _∙_}
 use mathlib.Core.Bool.{Bool, true, false, cond}
 use mathlib.Core.List.{List, [], _∷_, _++_, append-nil}
 use Prim.Native.Nat.{ℕ, zero, suc, _+_, _-_, _*_, _/_, _%_, _≤_, _<_, suc-le-suc}
-use native.Mathlib.Nat.{zero-mul, zero-add, suc-add, div-lt-iff-lt-mul, mul-add-div-right, mul-add-mod-self-right, add-mul}
+use native.Mathlib.Nat.{zero-add, suc-add, div-lt-iff-lt-mul, mul-add-div-right, mul-add-mod-self-right, add-mul}
 use native.Mathlib.Omega.{arith}
 use lib.Dec.{eqb}
 use lib.IntN.{ℤ, pos}
 use lib.ListN.{length, getD, length-append, List·getD-append}
 use Rattle.pcm.specs.Frames.{Frame}
-use Rattle.resample.specs.Counting.{tabulate, count, past, tabulate-ext, tabulate-add, count-before, past-is, counted, count-sum, past-sum, count-nil, factor}
+use Rattle.resample.specs.Counting.{tabulate, count, past, tabulate-ext, tabulate-add, count-before, past-is, counted, count-sum, past-sum, count-none-past, factor}
 use Rattle.resample.specs.Value.{value}
-use Rattle.resample.specs.Resample.{blend, outputAt, gaps, newest, padded, among, firstAt, outputs, output, next, resampled, stateAfter}
+use Rattle.resample.specs.Resample.{blend, outputAt, gaps, newest, padded, holding, among, firstAt, outputs, output, next, resampled, stateAfter}
 use Rattle.resample.specs.declared.LinearResampler.{LinearResampler}
 use Rattle.resample.specs.declared.ResamplerState.{ResamplerState}
 
@@ -100,7 +100,7 @@ module _ (i o : ℕ) where
           ap (outputAt o (x ∷ (ys ++ zs))) e ∙ output-after o x ys zs (q + j * i) (factor (length zs) o (q + j * i) (count-before i hi q E j h))
 
   none : (p : ℕ) → count i p (zero * o) ≡ 0
-  none p = ap (count i p) (zero-mul o) ∙ count-nil i p
+  none p = count-none-past i p (zero * o) (omega arith)
 
   -- ---- the laws that a chain needs
   pub output-nil : (s : ResamplerState) → output i o s [] ≡ []
@@ -128,9 +128,6 @@ module _ (i o : ℕ) where
           (outputs-append 0 x xs ys
           ∙ ap (λ (l : List Frame). outputs i o 0 (x ∷ xs) ++ l) (sym (outputs-padded (past i 0 (length xs * o)) (newest x xs) ys)))
 
-  abbrev kept : Frame → ℕ → ResamplerState
-  kept f p = record { last = padded f; phase = p; primed = true }
-
   pub next-append : (s : ResamplerState) (xs ys : List Frame) → next i o s (xs ++ ys) ≡ next i o (next i o s xs) ys
   unfolding next among firstAt
   next-append s [] ys = refl
@@ -138,8 +135,8 @@ module _ (i o : ℕ) where
   next-append s (x ∷ xs) (y ∷ ys) = go (s .primed) refl
     where
       go : (b : Bool) → s .primed ≡ b → next i o s (x ∷ (xs ++ (y ∷ ys))) ≡ next i o (next i o s (x ∷ xs)) (y ∷ ys)
-      go true e = rw e (ap₂ kept (newest-append x xs (y ∷ ys)) (ap (past i (s .phase)) (gaps-append o (x ∷ xs) (y ∷ ys)) ∙ past-sum i (s .phase) (length (x ∷ xs) * o) (length (y ∷ ys) * o)))
-      go false e = rw e (ap₂ kept (newest-append x xs (y ∷ ys)) (ap (past i 0) (gaps-append o xs (y ∷ ys)) ∙ past-sum i 0 (length xs * o) (length (y ∷ ys) * o)))
+      go true e = rw e (ap₂ holding (newest-append x xs (y ∷ ys)) (ap (past i (s .phase)) (gaps-append o (x ∷ xs) (y ∷ ys)) ∙ past-sum i (s .phase) (length (x ∷ xs) * o) (length (y ∷ ys) * o)))
+      go false e = rw e (ap₂ holding (newest-append x xs (y ∷ ys)) (ap (past i 0) (gaps-append o xs (y ∷ ys)) ∙ past-sum i 0 (length xs * o) (length (y ∷ ys) * o)))
 
 -- ---- the same of the stage, equal rates too
 module _ (r : LinearResampler) where

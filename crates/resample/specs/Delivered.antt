@@ -9,7 +9,7 @@ use native.Mathlib.Omega.{arith}
 use lib.Dec.{eqb}
 use lib.ListN.{length, getD, length-append}
 use Rattle.pcm.specs.Frames.{Frame}
-use Rattle.resample.specs.Counting.{tabulate, ceilDiv, count, past, tabulate-ext, length-tabulate, getD-tabulate, count-reach, count-before, count-least, count-after, count-sum, past-is, ceil-scale}
+use Rattle.resample.specs.Counting.{tabulate, ceilDiv, count, past, tabulate-ext, length-tabulate, getD-tabulate, count-reach, count-before, count-least, count-after, count-sum, past-is, ceil-is-count}
 use Rattle.resample.specs.Resample.{outputAt, gaps, delivered, openedState, soundState, among, firstAt, outputs, output, next, resampled, outputCount, frameCount}
 use Rattle.resample.specs.Cut.{output-append, next-append, output-nil}
 use Rattle.resample.specs.declared.LinearResampler.{LinearResampler}
@@ -18,9 +18,6 @@ use Rattle.resample.specs.declared.ResamplerState.{ResamplerState}
 pub gaps-is : (X : List Frame) → gaps X ≡ length X - 1
 gaps-is [] = refl
 gaps-is (x ∷ xs) = omega arith
-
-ceil-is-count : (i D : ℕ) → count i 0 D ≡ ceilDiv D i
-ceil-is-count i D = let e : D - 0 ≡ D = omega arith in rw e
 
 -- ---- an opened stage
 module _ (i o : ℕ) where
@@ -89,12 +86,6 @@ module _ (i o : ℕ) where
       before : 0 < i → (k : ℕ) → k * i < D * o + i → k ≤ count i 0 (D * o)
       before hi zero l = omega arith
       before hi (suc k) l = count-after i hi 0 (D * o) k (omega arith)
-
--- ---- by the rates themselves: ceil((T - 1) * out / in)
-pub delivered-by-rates : (input output i o g : ℕ) → 0 < i → 0 < g → i * g ≡ input → o * g ≡ output → (X : List Frame) → length (delivered i o X) ≡ ceilDiv ((length X - 1) * output) input
-delivered-by-rates input output i o g hi hg ei eo X =
-    let e : (length X - 1) * output ≡ (length X - 1) * o * g = omega (arith, ap (λ (n : ℕ). (length X - 1) * n) eo) in
-    delivered-length i o X ∙ sym (ap₂ ceilDiv e (sym ei) ∙ ceil-scale ((length X - 1) * o) i g hi hg)
 
 -- ---- the stage
 pub resampled-count : (r : LinearResampler) (s : ResamplerState) (xs : List Frame) → length (resampled r s xs) ≡ frameCount r (s .primed) (s .phase) (length xs)

@@ -6,3 +6,6 @@ pub mod Cut
 pub mod Delivered
 pub mod Neighbours
 pub mod Carried
+pub mod Opening
+pub mod Place
+pub mod Stage

@@ -70,9 +70,6 @@ blend-frame ch o a b r h p q = record {
 
 -- ---- an output from p on in steps of in_r
 module _ (ch i o p : ℕ) (X : List Frame) (a : FramesAfter ch X) (j : ℕ) (h : j < count i p (gaps X * o)) where
-  num : ℕ
-  num = p + j * i
-
   before : p + j * i < gaps X * o
   before = count-before i (counted i p (gaps X * o) j h) p (gaps X * o) j h
 

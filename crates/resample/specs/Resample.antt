@@ -41,13 +41,17 @@ padded [] = pos 0 ∷ pos 0 ∷ []
 padded (x ∷ []) = x ∷ pos 0 ∷ []
 padded (x ∷ y ∷ f) = x ∷ y ∷ f
 
+-- the state with the newest frame f and the phase p
+abbrev pub holding : Frame → ℕ → ResamplerState
+holding f p = record { last = padded f; phase = p; primed = true }
+
 abbrev pub openedState : ResamplerState
 openedState = record { last = pos 0 ∷ pos 0 ∷ []; phase = 0; primed = false }
 
 -- the sound state: the newest frame, and k * in_r - (T - 1) * out_r at the first k not delivered; before the first frame as opened
 unfoldable pub soundState : ℕ → ℕ → List Frame → ResamplerState
 soundState i o [] = openedState
-soundState i o (x ∷ xs) = record { last = padded (newest x xs); phase = length (delivered i o (x ∷ xs)) * i - length xs * o; primed = true }
+soundState i o (x ∷ xs) = holding (newest x xs) (length (delivered i o (x ∷ xs)) * i - length xs * o)
 
 -- ---- from a state, on the frames xs that follow
 -- the frames that the outputs lie among: the state's newest, if there is one, and those that follow
@@ -67,7 +71,7 @@ output i o s xs = outputs i o (firstAt s) (among s xs)
 
 unfoldable pub next : ℕ → ℕ → ResamplerState → List Frame → ResamplerState
 next i o s [] = s
-next i o s (x ∷ xs) = record { last = padded (newest x xs); phase = past i (firstAt s) (gaps (among s (x ∷ xs)) * o); primed = true }
+next i o s (x ∷ xs) = holding (newest x xs) (past i (firstAt s) (gaps (among s (x ∷ xs)) * o))
 
 -- ---- the stage: equal rates copy and keep no state
 unfoldable pub resampled : LinearResampler → ResamplerState → List Frame → List Frame
