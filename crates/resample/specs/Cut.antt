@@ -55,25 +55,29 @@ sample-padded (x ∷ []) (suc zero) = refl
 sample-padded (x ∷ []) (suc (suc c)) = refl
 sample-padded (x ∷ y ∷ a) c = refl
 
-blend-padded : (o : ℕ) (a b : Frame) (rem : ℕ) → blend o (padded a) b rem ≡ blend o a b rem
+-- of the older frame only the channels of the newer count
+pub blend-same : (o : ℕ) (a a′ b : Frame) (rem : ℕ) → ((c : ℕ) → c < length b → getD a c (pos 0) ≡ getD a′ c (pos 0)) → blend o a b rem ≡ blend o a′ b rem
 unfolding blend
-blend-padded o a b rem =
-    tabulate-ext (length b) (λ c. value o (getD (padded a) c (pos 0)) (getD b c (pos 0)) rem) (λ c. value o (getD a c (pos 0)) (getD b c (pos 0)) rem)
-    (λ c h. ap (λ (z : ℤ). value o z (getD b c (pos 0)) rem) (sample-padded a c))
+blend-same o a a′ b rem e =
+    tabulate-ext (length b) (λ c. value o (getD a c (pos 0)) (getD b c (pos 0)) rem) (λ c. value o (getD a′ c (pos 0)) (getD b c (pos 0)) rem)
+    (λ c h. ap (λ (z : ℤ). value o z (getD b c (pos 0)) rem) (e c h))
 
-output-padded : (o : ℕ) (x : Frame) (ys : List Frame) (num : ℕ) → outputAt o (padded x ∷ ys) num ≡ outputAt o (x ∷ ys) num
-unfolding outputAt
-output-padded o x ys num = pick (num / o)
-  where
-    pick : (g : ℕ) → blend o (getD (padded x ∷ ys) g []) (getD ys g []) (num % o) ≡ blend o (getD (x ∷ ys) g []) (getD ys g []) (num % o)
-    pick zero = blend-padded o x (getD ys 0 []) (num % o)
-    pick (suc g) = refl
+module _ (i o p : ℕ) (x x′ : Frame) (ys : List Frame) (e : (c : ℕ) → c < length (getD ys 0 []) → getD x c (pos 0) ≡ getD x′ c (pos 0)) where
+  output-same : (num : ℕ) → outputAt o (x ∷ ys) num ≡ outputAt o (x′ ∷ ys) num
+  unfolding outputAt
+  output-same num = pick (num / o)
+    where
+      pick : (g : ℕ) → blend o (getD (x ∷ ys) g []) (getD ys g []) (num % o) ≡ blend o (getD (x′ ∷ ys) g []) (getD ys g []) (num % o)
+      pick zero = blend-same o x x′ (getD ys 0 []) (num % o) e
+      pick (suc g) = refl
+
+  pub outputs-same : outputs i o p (x ∷ ys) ≡ outputs i o p (x′ ∷ ys)
+  unfolding outputs
+  outputs-same = tabulate-ext (count i p (length ys * o)) (λ j. outputAt o (x ∷ ys) (p + j * i)) (λ j. outputAt o (x′ ∷ ys) (p + j * i)) (λ j h. output-same (p + j * i))
 
 module _ (i o : ℕ) where
   outputs-padded : (p : ℕ) (x : Frame) (ys : List Frame) → outputs i o p (padded x ∷ ys) ≡ outputs i o p (x ∷ ys)
-  unfolding outputs
-  outputs-padded p x ys =
-      tabulate-ext (count i p (length ys * o)) (λ j. outputAt o (padded x ∷ ys) (p + j * i)) (λ j. outputAt o (x ∷ ys) (p + j * i)) (λ j h. output-padded o x ys (p + j * i))
+  outputs-padded p x ys = outputs-same i o p (padded x) x ys (λ c h. sample-padded x c)
 
   pub outputs-append : (p : ℕ) (x : Frame) (ys zs : List Frame) → outputs i o p (x ∷ (ys ++ zs)) ≡ outputs i o p (x ∷ ys) ++ outputs i o (past i p (length ys * o)) (newest x ys ∷ zs)
   unfolding outputs
