@@ -90,7 +90,7 @@ module _ (ch i o num : ℕ) (x : Frame) (input : List ℕ) (out₀ : List ℕ) (
   abbrev fs : List Frame
   fs = outputs i o num (x ∷ framesOf ch input)
 
-  total : length fs ≡ count i num (length input / (ch * 2) * o)
+  pub total : length fs ≡ count i num (length input / (ch * 2) * o)
   unfolding outputs
   total = length-tabulate (count i num (length (framesOf ch input) * o)) (λ j. outputAt o (x ∷ framesOf ch input) (num + j * i)) ∙ ap (λ (n : ℕ). count i num (n * o)) (length-frames ch input)
 

@@ -1,1 +1,2 @@
 mod Interpolating
+mod Blocks

@@ -280,3 +280,85 @@ fn run_stereo(
     }
     Delivered { frames: k, at: at }
 }
+
+// A mono block of unequal rates: what it brings at the front of `out`, and the state after it.
+fn resample_mono(in_r: u64, out_r: u64, s: ResamplerState, input: &[u8], out: &mut [u8]) -> Resampled
+    requires { ⌜ Ready 1 «in_r» «out_r» (output «in_r» «out_r» s (framesOf 1 (now input))) (now input) (now out) ⌝ }
+    ensures { λ r. ⌜ Processed (output «in_r» «out_r» s (framesOf 1 (now (input .entry)))) (next «in_r» «out_r» s (framesOf 1 (now (input .entry)))) (now (out .entry)) (now (out .exit)) r ⌝ }
+{
+    let last = s.last;
+    let len = input.len();
+    let num = first_position(out_r, s.primed, s.phase);
+    let d = run_mono(input, out, last[0], num, in_r, out_r);
+    let newest = pcm::get_i16(input, len - 2);
+    let phase = d.at.past(len / 2, out_r);
+    Resampled {
+        frames: d.frames,
+        state: ResamplerState {
+            last: [newest, 0],
+            phase: phase,
+            primed: true,
+        },
+    }
+}
+
+// The same for two channels.
+fn resample_stereo(in_r: u64, out_r: u64, s: ResamplerState, input: &[u8], out: &mut [u8]) -> Resampled
+    requires { ⌜ Ready 2 «in_r» «out_r» (output «in_r» «out_r» s (framesOf 2 (now input))) (now input) (now out) ⌝ }
+    ensures { λ r. ⌜ Processed (output «in_r» «out_r» s (framesOf 2 (now (input .entry)))) (next «in_r» «out_r» s (framesOf 2 (now (input .entry)))) (now (out .entry)) (now (out .exit)) r ⌝ }
+{
+    let last = s.last;
+    let len = input.len();
+    let num = first_position(out_r, s.primed, s.phase);
+    let d = run_stereo(input, out, last[0], last[1], num, in_r, out_r);
+    let left = pcm::get_i16(input, len - 4);
+    let right = pcm::get_i16(input, len - 2);
+    let phase = d.at.past(len / 4, out_r);
+    Resampled {
+        frames: d.frames,
+        state: ResamplerState {
+            last: [left, right],
+            phase: phase,
+            primed: true,
+        },
+    }
+}
+
+// The bytes of `input` at the front of `out`.
+fn copy(input: &[u8], out: &mut [u8])
+    requires { ⌜ length (now input) ≤ length (now out) ⌝ }
+    ensures { λ _. ⌜ now (out .exit) ≡ written (now (input .entry)) (now (out .entry)) ⌝ }
+{
+    let n = input.len();
+    let mut i: usize = 0;
+    while i < n {
+        out[i] = input[i];
+        i += 1;
+    }
+}
+
+impl LinearResampler {
+    // A block of whole frames through the stage: what it brings at the front of `out`, and the state after it.
+    pub fn process(
+        self,
+        s: ResamplerState,
+        channels: usize,
+        input: &[u8],
+        out: &mut [u8],
+    ) -> Resampled
+        requires { ⌜ Ready channels (self .«in_r») (self .«out_r») (resampled self s (framesOf channels (now input))) (now input) (now out) ⌝ }
+        ensures { λ r. ⌜ Processed (resampled self s (framesOf channels (now (input .entry)))) (stateAfter self s (framesOf channels (now (input .entry)))) (now (out .entry)) (now (out .exit)) r ⌝ }
+    {
+        if self.in_rate == self.out_rate {
+            copy(input, out);
+            return Resampled {
+                frames: input.len() / (channels * 2),
+                state: s,
+            };
+        }
+        if channels == 1 {
+            return resample_mono(self.in_r, self.out_r, s, input, out);
+        }
+        resample_stereo(self.in_r, self.out_r, s, input, out)
+    }
+}
