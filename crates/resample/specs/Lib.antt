@@ -10,3 +10,5 @@ pub mod Opening
 pub mod Place
 pub mod Stage
 pub mod Pcm
+pub mod Blocks
+pub mod Examples

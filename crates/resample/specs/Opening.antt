@@ -13,10 +13,11 @@ use Rattle.pcm.specs.Formats.{rateAllowed}
 use Rattle.pcm.specs.declared.Error.{Error}
 use Rattle.pcm.specs.declared.Error.the-variants.{InvalidFormat, TooManyFrames}
 use Rattle.resample.specs.Divisor.{gcd, gcd-is, gcd-positive, reduced-rate}
-use Rattle.resample.specs.Counting.{ceilDiv, count, count-least, ceil-reach, ceil-scale}
-use Rattle.resample.specs.Resample.{delivered, outputCount, frameCount}
-use Rattle.resample.specs.Delivered.{delivered-length}
+use Rattle.resample.specs.Counting.{ceilDiv, count, count-least, ceil-reach, ceil-least, ceil-scale}
+use Rattle.resample.specs.Resample.{delivered, resampled, outputCount, frameCount}
+use Rattle.resample.specs.Delivered.{delivered-length, resampled-count}
 use Rattle.resample.specs.declared.LinearResampler.{LinearResampler}
+use Rattle.resample.specs.declared.ResamplerState.{ResamplerState}
 use Rattle.resample.specs.declared.NewResampler.{NewResampler}
 use Rattle.resample.specs.declared.NewResampler.the-variants as New
 use Rattle.resample.specs.declared.MaxFrames.{MaxFrames}
@@ -131,3 +132,18 @@ delivered-by-rates r k X =
     delivered-length (r .«in_r») (r .«out_r») X
     ∙ sym (ceil-scale (n * r .«out_r») (r .«in_r») (r .«in_rate») (k .in-r .0) (k .input-rate .0))
     ∙ ap₂ ceilDiv e f ∙ ceil-scale (n * r .«out_rate») (r .«in_rate») (r .«in_r») (k .input-rate .0) (k .in-r .0)
+
+pub room-holds-resampled : (r : LinearResampler) → Rates r → (s : ResamplerState) (xs : List Frame) → length (resampled r s xs) ≤ roomFrames (r .«in_rate») (r .«out_rate») (length xs)
+room-holds-resampled r k s xs = rw (resampled-count r s xs) (room-holds r k (length xs) (s .primed) (s .phase))
+
+-- 0 frames give 1, and equal rates one frame more
+pub room-of-none : (input output : ℕ) → 0 < input → roomFrames input output 0 ≡ 1
+unfolding roomFrames
+room-of-none input output h = let e : ceilDiv (0 * output) input ≤ 0 = ceil-least input h (0 * output) 0 (omega arith) in omega arith
+
+pub room-of-equal : (rate n : ℕ) → 0 < rate → roomFrames rate rate n ≡ n + 1
+unfolding roomFrames
+room-of-equal rate n h =
+    let a : ceilDiv (n * rate) rate ≤ n = ceil-least rate h (n * rate) n (le-refl (n * rate)) in
+    let b : n ≤ ceilDiv (n * rate) rate = le-of-mul-le-mul-right {k = rate} (ceil-reach rate h (n * rate)) h in
+    omega arith

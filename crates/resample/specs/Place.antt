@@ -27,7 +27,7 @@ pub record Sum (o : ℕ) (p s r : Position) : Type 0 where
   pub is : ticks o r ≡ ticks o p + ticks o s
   pub parts : Parts o r
 
-pub at-new : (o num : ℕ) → 0 < o → At o num (record { frame = num / o; frac = num % o * 4294967296 / o; over = num % o * 4294967296 % o })
+pub at-new : (o num : ℕ) → 0 < o → At o num (record { frame = num / o; frac = frac o (num % o); over = num % o * 4294967296 % o })
 at-new o num h = record {
   is = omega (arith, div-add-mod' num o, div-add-mod' (num % o * 4294967296) o);
   parts = record { small = div-lt-iff-lt-mul h .1 (omega (arith, mod-lt num h)); rest = mod-lt (num % o * 4294967296) h };
@@ -45,8 +45,8 @@ pub at-sum : (o a b : ℕ) (p s r : Position) → At o a p → At o b s → Sum 
 at-sum o a b p s r x y z = record { is = omega (arith, x .is, y .is, z .is); parts = z .parts }
 
 module _ (o num : ℕ) (p : Position) (h : At o num p) where
-  left : p .frac * o + p .over ≡ (num - p .frame * o) * 4294967296
-  left = omega (arith, h .is)
+  remainder : p .frac * o + p .over ≡ (num - p .frame * o) * 4294967296
+  remainder = omega (arith, h .is)
 
   below : p .frac * o + p .over < 4294967296 * o
   below = let k : suc (p .frac) ≤ 4294967296 = h .parts .small in omega (arith, mul-le-mul-right o k, h .parts .rest)
@@ -54,22 +54,22 @@ module _ (o num : ℕ) (p : Position) (h : At o num p) where
   split : num ≡ p .frame * o + (num - p .frame * o)
   split = omega (arith, h .is)
 
-  left-lt : num - p .frame * o < o
-  left-lt = omega (arith, left, below)
+  remainder-below : num - p .frame * o < o
+  remainder-below = omega (arith, remainder, below)
 
   pub frame-is : num / o ≡ p .frame
-  frame-is = ap (λ (n : ℕ). n / o) split ∙ digits-div (p .frame) {m = o} {r = num - p .frame * o} left-lt
+  frame-is = ap (λ (n : ℕ). n / o) split ∙ digits-div (p .frame) {m = o} {r = num - p .frame * o} remainder-below
 
   rem-is : num % o ≡ num - p .frame * o
-  rem-is = ap (λ (n : ℕ). n % o) split ∙ digits-mod (p .frame) {m = o} {r = num - p .frame * o} left-lt
+  rem-is = ap (λ (n : ℕ). n % o) split ∙ digits-mod (p .frame) {m = o} {r = num - p .frame * o} remainder-below
 
   pub frac-is : frac o (num % o) ≡ p .frac
   frac-is =
-      ap (λ (n : ℕ). n * 4294967296 / o) rem-is ∙ ap (λ (n : ℕ). n / o) (sym left) ∙ digits-div (p .frac) {m = o} {r = p .over} (h .parts .rest)
+      ap (λ (n : ℕ). n * 4294967296 / o) rem-is ∙ ap (λ (n : ℕ). n / o) (sym remainder) ∙ digits-div (p .frac) {m = o} {r = p .over} (h .parts .rest)
 
   -- how far the position lies past n frames, in out_r-ths of a frame
   pub past-frames : (n : ℕ) → n ≤ p .frame → (p .frame - n) * o + (p .frac * o + p .over) / 4294967296 ≡ num - n * o
   past-frames n k =
-      let e : (p .frac * o + p .over) / 4294967296 ≡ num - p .frame * o = omega (arith, left) in
+      let e : (p .frac * o + p .over) / 4294967296 ≡ num - p .frame * o = omega (arith, remainder) in
       let d : p .frame ≡ (p .frame - n) + n = omega arith in
       omega (arith, e, split, ap (λ (x : ℕ). x * o) d)

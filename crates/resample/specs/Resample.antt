@@ -80,6 +80,13 @@ resampled r s xs = cond (eqb (r .«in_rate») (r .«out_rate»)) xs (output (r .
 unfoldable pub stateAfter : LinearResampler → ResamplerState → List Frame → ResamplerState
 stateAfter r s xs = cond (eqb (r .«in_rate») (r .«out_rate»)) s (next (r .«in_r») (r .«out_r») s xs)
 
+-- what the stage makes of the whole stream X, and its sound state then
+unfoldable pub wholeOutput : LinearResampler → List Frame → List Frame
+wholeOutput r X = cond (eqb (r .«in_rate») (r .«out_rate»)) X (delivered (r .«in_r») (r .«out_r») X)
+
+unfoldable pub wholeState : LinearResampler → List Frame → ResamplerState
+wholeState r X = cond (eqb (r .«in_rate») (r .«out_rate»)) openedState (soundState (r .«in_r») (r .«out_r») X)
+
 -- how many frames n frames bring, from the phase alone
 unfoldable pub outputCount : ℕ → ℕ → Bool → ℕ → ℕ → ℕ
 outputCount i o primed phase n = cond primed (count i phase (n * o)) (count i 0 ((n - 1) * o))

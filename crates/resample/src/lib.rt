@@ -7,7 +7,7 @@ ghost use lib.ListN.{length};
 ghost use Rattle.pcm.specs.Samples.{sampleAt};
 ghost use Rattle.pcm.specs.Frames.{framesOf, written};
 ghost use Rattle.resample.specs.Divisor.{gcd};
-ghost use Rattle.resample.specs.Value.{interpolated};
+ghost use Rattle.resample.specs.Value.{frac, interpolated};
 ghost use Rattle.resample.specs.Resample.{openedState, outputs, output, next, resampled, stateAfter, frameCount};
 ghost use Rattle.resample.specs.Opening.{ratesAllowed, opened, roomFrames, maxFrames};
 ghost use Rattle.resample.specs.Place.{Parts, At, Sum};
@@ -149,6 +149,14 @@ impl LinearResampler {
     }
 }
 
+// rem / out_r in 2^32nds.
+fn frac_q32(rem: u64, out_r: u64) -> u64
+    requires { ⌜ (rem < «out_r») × («out_r» ≤ 384000) ⌝ }
+    ensures { λ r. ⌜ r ≡ frac «out_r» rem ⌝ }
+{
+    rem * 4294967296 / out_r
+}
+
 // num / out_r frames: whole frames, 2^32nds of a frame, and out_r-ths of such.
 pub struct Position {
     pub frame: usize,
@@ -161,11 +169,11 @@ impl Position {
         requires { ⌜ (0 < «out_r») × («out_r» ≤ 384000) ⌝ }
         ensures { λ r. ⌜ At «out_r» num r ⌝ }
     {
-        let shifted = (num % out_r) * 4294967296;
+        let rem = num % out_r;
         Position {
             frame: (num / out_r) as usize,
-            frac: shifted / out_r,
-            over: shifted % out_r,
+            frac: frac_q32(rem, out_r),
+            over: rem * 4294967296 % out_r,
         }
     }
 
@@ -236,11 +244,11 @@ fn run_mono(input: &[u8], out: &mut [u8], last: i16, num: u64, in_r: u64, out_r:
     requires { ⌜ Ready 1 «in_r» «out_r» (outputs «in_r» «out_r» num ((last ∷ []) ∷ framesOf 1 (now input))) (now input) (now out) ⌝ }
     ensures { λ r. ⌜ Looped «in_r» «out_r» num (outputs «in_r» «out_r» num ((last ∷ []) ∷ framesOf 1 (now (input .entry)))) (now (out .entry)) (now (out .exit)) r ⌝ }
 {
-    let n = input.len() / 2;
+    let samples = input.len() / 2;
     let step = Position::new(in_r, out_r);
     let mut at = Position::new(num, out_r);
     let mut k: usize = 0;
-    while at.frame < n {
+    while at.frame < samples {
         let g = at.frame;
         let f = at.frac;
         let y = between(input, last, g * 2, 2, f);

@@ -19,23 +19,23 @@ use Rattle.resample.proofs.Interpolating.{Progress, progress-start, pro
 use Rattle.resample.proofs.run_mono.Statement.{statement}
 use Rattle.resample.proofs.run_mono.Tie as tie
 
-abbrev made : ℕ → ℕ → ℕ → ℤ → List ℕ → List Frame
-made i o num last input = outputs i o num ((last ∷ []) ∷ framesOf 1 input)
+abbrev mono-outputs : ℕ → ℕ → ℕ → ℤ → List ℕ → List Frame
+mono-outputs i o num last input = outputs i o num ((last ∷ []) ∷ framesOf 1 input)
 
 abbrev Inv-loop : tie.InvT-loop
-Inv-loop input out₀ last num in-r out-r n step at₀ k₀ out at k = Progress 1 in-r out-r num (made in-r out-r num (toZ w16 last) input) out₀ out k at
+Inv-loop input out₀ last num in-r out-r samples step at₀ k₀ out at k = Progress 1 in-r out-r num (mono-outputs in-r out-r num (toZ w16 last) input) out₀ out k at
 
 abbrev μ-loop : tie.MeasureT-loop
-μ-loop input out₀ last num in-r out-r n step at₀ k₀ out at k = length (made in-r out-r num (toZ w16 last) input) - k
+μ-loop input out₀ last num in-r out-r samples step at₀ k₀ out at k = length (mono-outputs in-r out-r num (toZ w16 last) input) - k
 
 abbrev last-of : tie.Start Inv-loop μ-loop → ℤ
 last-of s = toZ w16 (ofZ w16 (s .args .last))
 
-ready : (s : tie.Start Inv-loop μ-loop) → Ready 1 (s .args .in-r) (s .args .out-r) (made (s .args .in-r) (s .args .out-r) (s .args .num) (last-of s) (s .args .input .now)) (s .args .input .now) (s .args .out .now)
+ready : (s : tie.Start Inv-loop μ-loop) → Ready 1 (s .args .in-r) (s .args .out-r) (mono-outputs (s .args .in-r) (s .args .out-r) (s .args .num) (last-of s) (s .args .input .now)) (s .args .input .now) (s .args .out .now)
 ready s = rw (read-back (s .fits .last)) (s .pre)
 
 due-turn : (c : tie.Then1 Inv-loop μ-loop) → let s = c .before .before .before .before .before .before .before in
-    Turn 2 (c .before .before .loop .k) (length (made (s .args .in-r) (s .args .out-r) (s .args .num) (last-of s) (s .args .input .now))) (length (c .before .before .loop .out))
+    Turn 2 (c .before .before .loop .k) (length (mono-outputs (s .args .in-r) (s .args .out-r) (s .args .num) (last-of s) (s .args .input .now))) (length (c .before .before .loop .out))
 due-turn c = let s = c .before .before .before .before .before .before .before in turn 1 _ _ _ _ _ _ (ready s) (c .before .before .loop .inv) (s .good .1 .0 .0) (c .if1 .taken)
 
 advance-requires : tie.Need-advance-requires Inv-loop μ-loop
@@ -53,7 +53,7 @@ loop-again c =
     let s = b .before .before .before .before .before .before .before in
     let a = s .args in
     let r = ready s in
-    let fs : List Frame = made (a .in-r) (a .out-r) (a .num) (last-of s) (a .input .now) in
+    let fs : List Frame = mono-outputs (a .in-r) (a .out-r) (a .num) (last-of s) (a .input .now) in
     let y : ℤ = interpolated (earlierOf (a .input .now) (last-of s) (l .at .frame * 2) 2) (sampleAt (a .input .now) (l .at .frame * 2)) (l .at .frac) in
     let e : bytesOf (drop (l .k) fs) ≡ lowOf y ∷ highOf y ∷ bytesOf (drop (suc (l .k)) fs) =
     ap bytesOf (next-frame 1 _ _ _ _ _ _ r (l .inv) (b .if1 .taken)

@@ -19,14 +19,14 @@ use Rattle.resample.proofs.Interpolating.{Progress, progress-start, pro
 use Rattle.resample.proofs.run_stereo.Statement.{statement}
 use Rattle.resample.proofs.run_stereo.Tie as tie
 
-abbrev made : ℕ → ℕ → ℕ → ℤ → ℤ → List ℕ → List Frame
-made i o num left right input = outputs i o num ((left ∷ right ∷ []) ∷ framesOf 2 input)
+abbrev stereo-outputs : ℕ → ℕ → ℕ → ℤ → ℤ → List ℕ → List Frame
+stereo-outputs i o num left right input = outputs i o num ((left ∷ right ∷ []) ∷ framesOf 2 input)
 
 abbrev Inv-loop : tie.InvT-loop
-Inv-loop input out₀ left right num in-r out-r n step at₀ k₀ out at k = Progress 2 in-r out-r num (made in-r out-r num (toZ w16 left) (toZ w16 right) input) out₀ out k at
+Inv-loop input out₀ left right num in-r out-r n step at₀ k₀ out at k = Progress 2 in-r out-r num (stereo-outputs in-r out-r num (toZ w16 left) (toZ w16 right) input) out₀ out k at
 
 abbrev μ-loop : tie.MeasureT-loop
-μ-loop input out₀ left right num in-r out-r n step at₀ k₀ out at k = length (made in-r out-r num (toZ w16 left) (toZ w16 right) input) - k
+μ-loop input out₀ left right num in-r out-r n step at₀ k₀ out at k = length (stereo-outputs in-r out-r num (toZ w16 left) (toZ w16 right) input) - k
 
 abbrev left-of : tie.Start Inv-loop μ-loop → ℤ
 left-of s = toZ w16 (ofZ w16 (s .args .left))
@@ -34,13 +34,13 @@ left-of s = toZ w16 (ofZ w16 (s .args .left))
 abbrev right-of : tie.Start Inv-loop μ-loop → ℤ
 right-of s = toZ w16 (ofZ w16 (s .args .right))
 
-abbrev made-of : tie.Start Inv-loop μ-loop → List Frame
-made-of s = made (s .args .in-r) (s .args .out-r) (s .args .num) (left-of s) (right-of s) (s .args .input .now)
+abbrev outputs-of : tie.Start Inv-loop μ-loop → List Frame
+outputs-of s = stereo-outputs (s .args .in-r) (s .args .out-r) (s .args .num) (left-of s) (right-of s) (s .args .input .now)
 
-ready : (s : tie.Start Inv-loop μ-loop) → Ready 2 (s .args .in-r) (s .args .out-r) (made-of s) (s .args .input .now) (s .args .out .now)
+ready : (s : tie.Start Inv-loop μ-loop) → Ready 2 (s .args .in-r) (s .args .out-r) (outputs-of s) (s .args .input .now) (s .args .out .now)
 ready s = rw (read-back (s .fits .left), read-back (s .fits .right)) (s .pre)
 
-due-turn : (c : tie.Then1 Inv-loop μ-loop) → let s = c .before .before .before .before .before .before .before in Turn 4 (c .before .before .loop .k) (length (made-of s)) (length (c .before .before .loop .out))
+due-turn : (c : tie.Then1 Inv-loop μ-loop) → let s = c .before .before .before .before .before .before .before in Turn 4 (c .before .before .loop .k) (length (outputs-of s)) (length (c .before .before .loop .out))
 due-turn c = let s = c .before .before .before .before .before .before .before in turn 2 _ _ _ _ _ _ (ready s) (c .before .before .loop .inv) (s .good .1 .0 .0) (c .if1 .taken)
 
 -- the frame's first sample is written, and its second is next
@@ -51,14 +51,14 @@ right-sample b =
     interpolated (earlierOf (s .args .input .now) (right-of s) (l .at .frame * 4 + 2) 4) (sampleAt (s .args .input .now) (l .at .frame * 4 + 2)) (l .at .frac)
 
 half : (c : tie.After-put-i16 Inv-loop μ-loop) → let b = c .before .before .before .before in let s = b .before .before .before .before .before .before .before in let l = b .before .before .loop in
-    Writing (written (bytesOf (made-of s)) (s .args .out .now)) (lowOf (right-sample b) ∷ highOf (right-sample b) ∷ bytesOf (drop (suc (l .k)) (made-of s))) (length (made-of s) * 4) (s .args .out .now) (c .put-i16 .last .0) (l .k * 4 + 2)
+    Writing (written (bytesOf (outputs-of s)) (s .args .out .now)) (lowOf (right-sample b) ∷ highOf (right-sample b) ∷ bytesOf (drop (suc (l .k)) (outputs-of s))) (length (outputs-of s) * 4) (s .args .out .now) (c .put-i16 .last .0) (l .k * 4 + 2)
 half c =
     let b = c .before .before .before .before in
     let s = b .before .before .before .before .before .before .before in
     let l = b .before .before .loop in
     let a = s .args in
     let r = ready s in
-    let fs : List Frame = made-of s in
+    let fs : List Frame = outputs-of s in
     let y : ℤ = interpolated (earlierOf (a .input .now) (left-of s) (l .at .frame * 4) 4) (sampleAt (a .input .now) (l .at .frame * 4)) (l .at .frac) in
     let z : ℤ = right-sample b in
     let e : bytesOf (drop (l .k) fs) ≡ lowOf y ∷ highOf y ∷ lowOf z ∷ highOf z ∷ bytesOf (drop (suc (l .k)) fs) =
