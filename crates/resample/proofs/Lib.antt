@@ -1,0 +1,2 @@
+mod Interpolating
+mod Blocks

@@ -1,0 +1,97 @@
+-- The stage delivers document 01's closed form of the whole stream, and so many frames. Assumes nothing.
+use mathlib.Core.Path.{_≡_, refl, sym, ap, ap₂, _∙_}
+use mathlib.Core.Logic.{_↔_}
+use mathlib.Core.Bool.{Bool, true, false, cond}
+use mathlib.Core.List.{List, [], _∷_, _++_}
+use Prim.Native.Nat.{ℕ, zero, suc, _+_, _-_, _*_, _/_, _≤_, _<_}
+use native.Mathlib.Nat.{zero-add, le-antisymm, lt-of-not-le, le-of-suc-le-suc}
+use native.Mathlib.Omega.{arith}
+use lib.Dec.{eqb}
+use lib.ListN.{length, getD, length-append}
+use Rattle.pcm.specs.Frames.{Frame}
+use Rattle.resample.specs.Counting.{tabulate, ceilDiv, count, past, tabulate-ext, length-tabulate, getD-tabulate, count-reach, count-before, count-least, count-after, count-sum, past-is, ceil-is-count}
+use Rattle.resample.specs.Resample.{outputAt, gaps, delivered, openedState, soundState, among, firstAt, outputs, output, next, resampled, outputCount, frameCount}
+use Rattle.resample.specs.Cut.{output-append, next-append, output-nil}
+use Rattle.resample.specs.declared.LinearResampler.{LinearResampler}
+use Rattle.resample.specs.declared.ResamplerState.{ResamplerState}
+
+pub gaps-is : (X : List Frame) → gaps X ≡ length X - 1
+gaps-is [] = refl
+gaps-is (x ∷ xs) = omega arith
+
+-- ---- an opened stage
+module _ (i o : ℕ) where
+  pub output-is-delivered : (X : List Frame) → output i o openedState X ≡ delivered i o X
+  unfolding output outputs among firstAt delivered
+  output-is-delivered X =
+      ap (λ (n : ℕ). tabulate n (λ k. outputAt o X (0 + k * i))) (ceil-is-count i (gaps X * o))
+      ∙ tabulate-ext (ceilDiv (gaps X * o) i) (λ k. outputAt o X (0 + k * i)) (λ k. outputAt o X (k * i)) (λ k h. ap (outputAt o X) (zero-add (k * i)))
+
+  pub delivered-length : (X : List Frame) → length (delivered i o X) ≡ ceilDiv ((length X - 1) * o) i
+  unfolding delivered
+  delivered-length X = length-tabulate (ceilDiv (gaps X * o) i) (λ k. outputAt o X (k * i)) ∙ ap (λ (n : ℕ). ceilDiv (n * o) i) (gaps-is X)
+
+  pub next-is-sound-state : (X : List Frame) → next i o openedState X ≡ soundState i o X
+  unfolding next soundState among firstAt delivered
+  next-is-sound-state [] = refl
+  next-is-sound-state (x ∷ xs) =
+      let e : length (tabulate (ceilDiv (length xs * o) i) (λ k. outputAt o (x ∷ xs) (k * i))) ≡ count i 0 (length xs * o) =
+      length-tabulate (ceilDiv (length xs * o) i) (λ k. outputAt o (x ∷ xs) (k * i)) ∙ sym (ceil-is-count i (length xs * o)) in
+      rw (e, zero-add)
+
+  -- ---- whatever the cutting
+  pub delivered-append : (X ys : List Frame) → delivered i o (X ++ ys) ≡ delivered i o X ++ output i o (soundState i o X) ys
+  delivered-append X ys =
+      sym (output-is-delivered (X ++ ys)) ∙ output-append i o openedState X ys
+      ∙ ap₂ (λ (l : List Frame) (s : ResamplerState). l ++ output i o s ys) (output-is-delivered X) (next-is-sound-state X)
+
+  pub sound-state-append : (X ys : List Frame) → soundState i o (X ++ ys) ≡ next i o (soundState i o X) ys
+  sound-state-append X ys = sym (next-is-sound-state (X ++ ys)) ∙ next-append i o openedState X ys ∙ ap (λ (s : ResamplerState). next i o s ys) (next-is-sound-state X)
+
+  -- ---- output k is delivered exactly while k * in_r < (T - 1) * out_r, and is the paper's
+  pub delivered-exactly : 0 < i → (X : List Frame) (k : ℕ) → (k < length (delivered i o X)) ↔ (k * i < (length X - 1) * o)
+  delivered-exactly hi X k = (fwd, bwd)
+    where
+      len : length (delivered i o X) ≡ count i 0 ((length X - 1) * o)
+      len = delivered-length X ∙ sym (ceil-is-count i ((length X - 1) * o))
+
+      fwd : k < length (delivered i o X) → k * i < (length X - 1) * o
+      fwd h = omega (arith, count-before i hi 0 ((length X - 1) * o) k (rw len at h))
+
+      bwd : k * i < (length X - 1) * o → k < length (delivered i o X)
+      bwd h = rw len (count-after i hi 0 ((length X - 1) * o) k (omega arith))
+
+  pub delivered-at : (X : List Frame) (k : ℕ) → k < length (delivered i o X) → getD (delivered i o X) k [] ≡ outputAt o X (k * i)
+  unfolding delivered
+  delivered-at X k h = getD-tabulate (ceilDiv (gaps X * o) i) (λ j. outputAt o X (j * i)) k [] (rw length-tabulate at h)
+
+  -- ---- how many
+  pub output-count : (s : ResamplerState) (xs : List Frame) → length (output i o s xs) ≡ outputCount i o (s .primed) (s .phase) (length xs)
+  unfolding output outputs among firstAt outputCount
+  output-count s xs = length-tabulate (count i (cond (s .primed) (s .phase) 0) (gaps (cond (s .primed) (s .last ∷ xs) xs) * o)) _ ∙ go (s .primed)
+    where
+      go : (b : Bool) → count i (cond b (s .phase) 0) (gaps (cond b (s .last ∷ xs) xs) * o) ≡ cond b (count i (s .phase) (length xs * o)) (count i 0 ((length xs - 1) * o))
+      go true = refl
+      go false = ap (λ (n : ℕ). count i 0 (n * o)) (gaps-is xs)
+
+  -- from a state that K outputs of D + 1 frames led to, at the phase K * in_r - D * out_r: n frames more bring all that are due of D + 1 + n
+  pub delivered-in-all : (K D p n : ℕ) → p < i → p + D * o ≡ K * i → K + count i p (n * o) ≡ ceilDiv ((D + n) * o) i
+  delivered-in-all K D p n h e =
+      let hi : 0 < i = omega arith in
+      let c : count i 0 (D * o) ≡ K = le-antisymm (count-least i hi 0 (D * o) K (omega arith)) (before hi K (omega arith)) in
+      let q : past i 0 (D * o) ≡ p = omega (arith, past-is i hi 0 (D * o), ap (λ (k : ℕ). k * i) c) in
+      let w : (D + n) * o ≡ D * o + n * o = omega arith in
+      sym (sym (ceil-is-count i ((D + n) * o)) ∙ ap (count i 0) w ∙ count-sum i 0 (D * o) (n * o) ∙ ap₂ (λ (a b : ℕ). a + count i b (n * o)) c q)
+    where
+      before : 0 < i → (k : ℕ) → k * i < D * o + i → k ≤ count i 0 (D * o)
+      before hi zero l = omega arith
+      before hi (suc k) l = count-after i hi 0 (D * o) k (omega arith)
+
+-- ---- the stage
+pub resampled-count : (r : LinearResampler) (s : ResamplerState) (xs : List Frame) → length (resampled r s xs) ≡ frameCount r (s .primed) (s .phase) (length xs)
+unfolding resampled frameCount
+resampled-count r s xs = go (eqb (r .«in_rate») (r .«out_rate»))
+  where
+    go : (b : Bool) → length (cond b xs (output (r .«in_r») (r .«out_r») s xs)) ≡ cond b (length xs) (outputCount (r .«in_r») (r .«out_r») (s .primed) (s .phase) (length xs))
+    go true = refl
+    go false = output-count (r .«in_r») (r .«out_r») s xs

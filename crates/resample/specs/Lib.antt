@@ -1,0 +1,14 @@
+pub mod Divisor
+pub mod Counting
+pub mod Value
+pub mod Resample
+pub mod Cut
+pub mod Delivered
+pub mod Neighbours
+pub mod Carried
+pub mod Opening
+pub mod Place
+pub mod Stage
+pub mod Pcm
+pub mod Blocks
+pub mod Examples
