@@ -1,7 +1,14 @@
 // One stage of a chain: its kind, the sound memory beside it, and what it does to a block.
 ghost use mathlib.Core.Path.{_≡_};
+ghost use mathlib.Core.Bool.{_&&_};
+ghost use Prim.Native.Nat.{_*_, _≤_};
+ghost use lib.Dec.{eqb, leb, ltb};
+ghost use lib.IntN.{natAbs};
+ghost use Rattle.pcm.specs.Samples.{Samples};
+ghost use Rattle.pcm.specs.Frames.{framesOf};
+ghost use Rattle.resample.specs.Opening.{Rates};
+ghost use Rattle.stage.specs.Rooms.{ratesSuit, suits, framesOut, framesWanted, Bounded, Served, Serves};
 ghost use Rattle.stage.specs.Stages.{formatAfter, memoryAsOpened, stageAsOpened, stageClear};
-
 use biquad::Biquad;
 use dc_block::DcBlock;
 use gain::Gain;
@@ -79,5 +86,204 @@ pub fn format_after(format: PcmFormat, kind: StageKind) -> PcmFormat
         },
         StageKind::DcBlock(_) => format,
         StageKind::Biquad(_) => format,
+    }
+}
+
+// Is a rate that was divided by a common divisor from 1 to the rate itself?
+fn part_suits(part: u64, rate: u64) -> bool
+    ensures { λ r. ⌜ r ≡ (ltb 0 part && leb part rate) ⌝ }
+{
+    if part == 0 {
+        return false;
+    }
+    part <= rate
+}
+
+// Are a resampler's rates within their limit, and divided by a common divisor?
+fn rates_suit(r: LinearResampler) -> bool
+    ensures { λ b. ⌜ b ≡ ratesSuit r ⌝ }
+{
+    if pcm::rate_allowed(r.in_rate) {
+        if pcm::rate_allowed(r.out_rate) {
+            return parts_suit(r.in_rate as u64, r.out_rate as u64, r.in_r, r.out_r);
+        }
+        return false;
+    }
+    false
+}
+
+fn parts_suit(input: u64, output: u64, in_r: u64, out_r: u64) -> bool
+    requires { ⌜ (input ≤ 384000) × (output ≤ 384000) ⌝ }
+    ensures { λ r. ⌜ r ≡ ((ltb 0 «in_r» && leb «in_r» input) && ((ltb 0 «out_r» && leb «out_r» output) && eqb («in_r» * output) («out_r» * input))) ⌝ }
+{
+    if part_suits(in_r, input) {
+        if part_suits(out_r, output) {
+            return in_r * output == out_r * input;
+        }
+        return false;
+    }
+    false
+}
+
+// Is this a stage that opening can have made where `format` reaches it, with a phase that a call can have left?
+pub fn stage_suits(format: PcmFormat, stage: Stage) -> bool
+    ensures { λ r. ⌜ r ≡ suits format (stage .kind) (stage .memory) ⌝ }
+{
+    let kind = stage.kind;
+    let memory = stage.memory;
+    let state = memory.resampler;
+    match kind {
+        StageKind::Gain(g) => gain_suits(g),
+        StageKind::MonoToStereo => format.channels == 1,
+        StageKind::StereoToMono => format.channels == 2,
+        StageKind::Resample(r) => resampler_suits(format.rate, r, state.phase),
+        StageKind::DcBlock(_) => true,
+        StageKind::Biquad(b) => format.rate == b.rate,
+    }
+}
+
+fn gain_suits(g: Gain) -> bool
+    ensures { λ r. ⌜ r ≡ leb (natAbs (g .q15)) 33554432 ⌝ }
+{
+    if g.q15 < -33554432 {
+        return false;
+    }
+    g.q15 <= 33554432
+}
+
+fn resampler_suits(rate: u32, r: LinearResampler, phase: u64) -> bool
+    ensures { λ b. ⌜ b ≡ (ratesSuit r && (eqb rate (r .«in_rate») && ltb phase (r .«in_r»))) ⌝ }
+{
+    if rates_suit(r) {
+        if rate == r.in_rate {
+            return phase < r.in_r;
+        }
+        return false;
+    }
+    false
+}
+
+// How many frames a stage delivers of so many, from the phase alone.
+pub fn frames_out(stage: Stage, frames: usize) -> usize
+    requires { ⌜ (frames ≤ 2400000000000) × Bounded (stage .kind) ⌝ }
+    ensures { λ r. ⌜ r ≡ framesOut (stage .kind) (stage .memory) frames ⌝ }
+{
+    let kind = stage.kind;
+    let memory = stage.memory;
+    let state = memory.resampler;
+    match kind {
+        StageKind::Gain(_) => frames,
+        StageKind::MonoToStereo => frames,
+        StageKind::StereoToMono => frames,
+        StageKind::Resample(r) => r.output_frames(state.primed, state.phase, frames),
+        StageKind::DcBlock(_) => frames,
+        StageKind::Biquad(_) => frames,
+    }
+}
+
+// The frames that a stage wants room for.
+pub fn frames_wanted(kind: StageKind, frames: usize) -> usize
+    requires { ⌜ (frames ≤ 2400000000000) × Bounded kind ⌝ }
+    ensures { λ r. ⌜ r ≡ framesWanted kind frames ⌝ }
+{
+    match kind {
+        StageKind::Gain(_) => frames,
+        StageKind::MonoToStereo => frames,
+        StageKind::StereoToMono => frames,
+        StageKind::Resample(r) => r.room_frames(frames),
+        StageKind::DcBlock(_) => frames,
+        StageKind::Biquad(_) => frames,
+    }
+}
+
+// A stage after its turn, and how many bytes it delivered.
+pub struct Applied {
+    pub stage: Stage,
+    pub len: usize,
+}
+
+// The state as it is; that its newest frame is of samples is what its type says.
+fn held_samples(state: ResamplerState) -> ResamplerState
+    ensures { λ r. ⌜ (r ≡ state) × Samples (state .last) ⌝ }
+{
+    let last = state.last;
+    let left = last[0];
+    let right = last[1];
+    ResamplerState {
+        last: [left, right],
+        phase: state.phase,
+        primed: state.primed,
+    }
+}
+
+// A stage's turn: what it makes of `input` stands at the front of `out`.
+pub fn apply(format: PcmFormat, stage: Stage, input: &[u8], out: &mut [u8]) -> Applied
+    requires { ⌜ Served format stage (now input) (now out) ⌝ }
+    ensures { λ r. ⌜ Serves format stage (r .stage) (framesOf (format .channels) (now (input .entry))) (r .len) (now (out .entry)) (now (out .exit)) ⌝ }
+{
+    let kind = stage.kind;
+    let memory = stage.memory;
+    let filter = memory.filter;
+    let state = memory.resampler;
+    let resampler = held_samples(state);
+    let channels = format.channels as usize;
+    match kind {
+        StageKind::Gain(g) => {
+            g.process(input, out);
+            Applied {
+                stage,
+                len: input.len(),
+            }
+        }
+        StageKind::MonoToStereo => {
+            channels::mono_to_stereo(input, out);
+            Applied {
+                stage,
+                len: input.len() * 2,
+            }
+        }
+        StageKind::StereoToMono => {
+            channels::stereo_to_mono(input, out);
+            Applied {
+                stage,
+                len: input.len() / 2,
+            }
+        }
+        StageKind::Resample(r) => {
+            let t = r.process(resampler, channels, input, out);
+            let next = t.state;
+            let memory = SoundMemory {
+                filter,
+                resampler: next,
+            };
+            Applied {
+                stage: Stage { kind, memory },
+                len: t.frames * (channels * 2),
+            }
+        }
+        StageKind::DcBlock(b) => {
+            let next = b.process(input, out, channels, filter);
+            filter_applied(kind, next, state, input.len())
+        }
+        StageKind::Biquad(b) => {
+            let next = b.process(input, out, channels, filter);
+            filter_applied(kind, next, state, input.len())
+        }
+    }
+}
+
+// A filter after its turn.
+fn filter_applied(
+    kind: StageKind,
+    filter: FilterMemory,
+    resampler: ResamplerState,
+    len: usize,
+) -> Applied
+    ensures { λ r. ⌜ r ≡ record { stage = record { kind = kind; memory = record { filter = filter; resampler = resampler } }; len = len } ⌝ }
+{
+    let memory = SoundMemory { filter, resampler };
+    Applied {
+        stage: Stage { kind, memory },
+        len,
     }
 }
