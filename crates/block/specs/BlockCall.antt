@@ -1,0 +1,152 @@
+-- The block call (document 01, pipeline.rs and 'The questions'): from a chain and a call to all that is there afterwards. Definitions only.
+use mathlib.Core.Bool.{Bool, true, false, cond, _&&_}
+use mathlib.Core.List.{List, [], _∷_, _++_}
+use Prim.Native.Nat.{ℕ, zero, suc, _+_, _*_, _/_, _%_}
+use lib.Dec.{eqb, leb, ltb}
+use lib.ListN.{length, take, drop}
+use Rattle.pcm.specs.declared.PcmFormat.{PcmFormat}
+use Rattle.pcm.specs.declared.Error.the-variants.{InvalidFormat, Unsupported, BufferTooSmall, InvalidGeometry, TooManyFrames}
+use Rattle.pcm.specs.declared.Verdict.{Verdict}
+use Rattle.pcm.specs.declared.Verdict.the-variants.{Accepted, Refused}
+use Rattle.pcm.specs.Formats.{formatAllowed}
+use Rattle.pcm.specs.Refusals.{ask}
+use Rattle.pcm.specs.Frames.{Frame, framesOf, bytesOf, written}
+use Rattle.stage.specs.declared.Stage.{Stage}
+use Rattle.stage.specs.Stages.{stageOut, formatAfter}
+use Rattle.stage.specs.Rooms.{suits, framesOut, framesWanted, roomWanted}
+use Rattle.pipeline.specs.declared.Pipeline.{Pipeline}
+use Rattle.block.specs.declared.Half.{Half}
+use Rattle.block.specs.declared.Half.the-variants as half
+use Rattle.block.specs.declared.Answer.{Answer}
+use Rattle.block.specs.declared.Answer.the-variants as answer
+use Rattle.block.specs.Chain.{chainOut, chainNext, formatOut}
+
+-- the stages that a chain has
+abbrev pub stagesOf : Pipeline → List Stage
+stagesOf c = take (c .count) (c .stages)
+
+-- each stage suits the format that reaches it
+unfoldable pub suited : PcmFormat → List Stage → Bool
+suited f [] = true
+suited f (s ∷ rest) = suits f (s .kind) (s .memory) && suited (formatAfter f (s .kind)) rest
+
+-- a chain that opening or a call can have returned
+unfoldable pub legal : Pipeline → Bool
+legal c = leb (c .count) 8 && (formatAllowed (c .format) && suited (c .format) (stagesOf c))
+
+-- ---- the questions
+-- At each stage that will be reached, in chain order, does the shorter half hold the room wanted?
+-- else 3, with needed = twice the room of the first stage short
+unfoldable pub roomVerdict : PcmFormat → List Stage → ℕ → ℕ → Verdict
+roomVerdict f [] n shorter = Accepted
+roomVerdict f (s ∷ rest) n shorter =
+    cond (eqb n 0) Accepted
+    (ask (leb (roomWanted f (s .kind) n) shorter) (BufferTooSmall (2 * roomWanted f (s .kind) n))
+    (roomVerdict (formatAfter f (s .kind)) rest (framesOut (s .kind) (s .memory) n) shorter))
+
+-- for no stages, twice the block
+abbrev pub halvesVerdict : PcmFormat → List Stage → ℕ → ℕ → Verdict
+halvesVerdict f [] size shorter = ask (leb size shorter) (BufferTooSmall (2 * size)) Accepted
+halvesVerdict f (s ∷ rest) size shorter = roomVerdict f (s ∷ rest) (size / (f .channels * 2)) shorter
+
+-- whole frames of the chain's format, at least one
+abbrev pub wholeFrames : PcmFormat → ℕ → Bool
+wholeFrames f size = ltb 0 size && eqb (size % (f .channels * 2)) 0
+
+abbrev pub sameFormat : PcmFormat → PcmFormat → Bool
+sameFormat f g = eqb (f .rate) (g .rate) && eqb (f .channels) (g .channels)
+
+-- Is the chain one that a call returned? else 1. Whole frames, at least one? else 4. At most 8,192? else 10. In the chain's format? else 2. Room? else 3
+unfoldable pub verdictOf : Pipeline → PcmFormat → ℕ → ℕ → Verdict
+verdictOf c format size shorter =
+    ask (legal c) InvalidFormat
+    (ask (wholeFrames (c .format) size) InvalidGeometry
+    (ask (leb (size / (c .format .channels * 2)) 8192) TooManyFrames
+    (ask (sameFormat (c .format) format) Unsupported
+    (halvesVerdict (c .format) (stagesOf c) size shorter))))
+
+-- ---- an accepted block
+-- the two halves that the caller lends
+pub record Halves : Type 0 where
+  pub a : List ℕ
+  pub b : List ℕ
+
+-- stage 1 writes to half a, stage 2 to b, stage 3 to a, and so on: stage i + 1 writes `out`
+abbrev pub put : ℕ → List ℕ → Halves → Halves
+put i out h =
+    cond (eqb (i % 2) 0)
+    (record { a = written out (h .a); b = h .b })
+    (record { a = h .a; b = written out (h .b) })
+
+-- every stage from stage i + 1 on writes its output bytes at the front of its half; one that delivers 0 bytes ends the call
+unfoldable pub passed : ℕ → List Stage → List Frame → Halves → Halves
+passed i [] xs h = h
+passed i (s ∷ rest) xs h = passed (suc i) rest (stageOut s xs) (put i (bytesOf (stageOut s xs)) h)
+
+-- no stages: the block is copied to a
+abbrev pub halvesAfter : List Stage → List Frame → List ℕ → Halves → Halves
+halvesAfter [] xs bytes h = put 0 bytes h
+halvesAfter (s ∷ rest) xs bytes h = passed 0 (s ∷ rest) xs h
+
+-- the half that the last stage writes to
+abbrev pub lastHalf : ℕ → Half
+lastHalf zero = half.A
+lastHalf (suc n) = cond (eqb (n % 2) 0) half.A half.B
+
+-- a counter grows by one and stays at 2^64 - 1
+abbrev pub counted : ℕ → ℕ
+counted n = cond (ltb n 18446744073709551615) (n + 1) n
+
+-- what a call leaves behind
+pub record Result : Type 0 where
+  pub chain : Pipeline
+  pub answer : Answer
+  pub a : List ℕ
+  pub b : List ℕ
+
+-- 'nothing yet' where no bytes come out; else the format, half and length of the output; the timestamp is copied through
+abbrev pub answerOf : PcmFormat → ℕ → Half → ℕ → Answer
+answerOf format timestamp side len = cond (eqb len 0) answer.NothingYet (answer.Output format timestamp side len)
+
+-- `blocks` grows with each accepted call, `empty_blocks` with each 'nothing yet'
+abbrev pub countedChain : Pipeline → List Stage → ℕ → Pipeline
+countedChain c stages len = record {
+  stages = stages;
+  count = c .count;
+  format = c .format;
+  blocks = counted (c .blocks);
+  «empty_blocks» = cond (eqb len 0) (counted (c .«empty_blocks»)) (c .«empty_blocks»);
+}
+
+-- how many bytes come out of the block
+abbrev pub outputBytes : Pipeline → List ℕ → ℕ
+outputBytes c bytes = length (bytesOf (chainOut (stagesOf c) (framesOf (c .format .channels) bytes)))
+
+unfoldable pub accepted : Pipeline → ℕ → List ℕ → Halves → Result
+accepted c timestamp bytes h = record {
+  chain = countedChain c (chainNext (stagesOf c) (framesOf (c .format .channels) bytes) ++ drop (c .count) (c .stages)) (outputBytes c bytes);
+  answer = answerOf (formatOut (c .format) (stagesOf c)) timestamp (lastHalf (c .count)) (outputBytes c bytes);
+  a = halvesAfter (stagesOf c) (framesOf (c .format .channels) bytes) bytes h .a;
+  b = halvesAfter (stagesOf c) (framesOf (c .format .channels) bytes) bytes h .b;
+}
+
+abbrev pub shorter : List ℕ → List ℕ → ℕ
+shorter a b = cond (leb (length a) (length b)) (length a) (length b)
+
+-- a refusal alters nothing
+abbrev pub concluded : Verdict → Pipeline → ℕ → List ℕ → Halves → Result
+concluded Accepted c timestamp bytes h = accepted c timestamp bytes h
+concluded (Refused e) c timestamp bytes h = record { chain = c; answer = answer.Refused e; a = h .a; b = h .b }
+
+-- the block call: from the chain, the block and the two halves to all that is there afterwards
+unfoldable pub blockCall : Pipeline → PcmFormat → ℕ → List ℕ → List ℕ → List ℕ → Result
+blockCall c format timestamp bytes a b =
+    concluded (verdictOf c format (length bytes) (shorter a b)) c timestamp bytes (record { a = a; b = b })
+
+-- ---- scratch_bytes: twice the largest block on the way, if every stage delivered all that it wants room for
+unfoldable pub larger : ℕ → ℕ → ℕ
+larger a b = cond (leb a b) b a
+
+unfoldable pub largest : PcmFormat → List Stage → ℕ → ℕ
+largest f [] n = 0
+largest f (s ∷ rest) n = larger (roomWanted f (s .kind) n) (largest (formatAfter f (s .kind)) rest (framesWanted (s .kind) n))

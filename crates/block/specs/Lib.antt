@@ -1,0 +1,3 @@
+pub mod Chain
+pub mod BlockCall
+pub mod Turns
