@@ -290,7 +290,13 @@ fn run_stereo(
 }
 
 // A mono block of unequal rates: what it brings at the front of `out`, and the state after it.
-fn resample_mono(in_r: u64, out_r: u64, s: ResamplerState, input: &[u8], out: &mut [u8]) -> Resampled
+fn resample_mono(
+    in_r: u64,
+    out_r: u64,
+    s: ResamplerState,
+    input: &[u8],
+    out: &mut [u8],
+) -> Resampled
     requires { ⌜ Ready 1 «in_r» «out_r» (output «in_r» «out_r» s (framesOf 1 (now input))) (now input) (now out) ⌝ }
     ensures { λ r. ⌜ Processed (output «in_r» «out_r» s (framesOf 1 (now (input .entry)))) (next «in_r» «out_r» s (framesOf 1 (now (input .entry)))) (now (out .entry)) (now (out .exit)) r ⌝ }
 {
@@ -311,7 +317,13 @@ fn resample_mono(in_r: u64, out_r: u64, s: ResamplerState, input: &[u8], out: &m
 }
 
 // The same for two channels.
-fn resample_stereo(in_r: u64, out_r: u64, s: ResamplerState, input: &[u8], out: &mut [u8]) -> Resampled
+fn resample_stereo(
+    in_r: u64,
+    out_r: u64,
+    s: ResamplerState,
+    input: &[u8],
+    out: &mut [u8],
+) -> Resampled
     requires { ⌜ Ready 2 «in_r» «out_r» (output «in_r» «out_r» s (framesOf 2 (now input))) (now input) (now out) ⌝ }
     ensures { λ r. ⌜ Processed (output «in_r» «out_r» s (framesOf 2 (now (input .entry)))) (next «in_r» «out_r» s (framesOf 2 (now (input .entry)))) (now (out .entry)) (now (out .exit)) r ⌝ }
 {
