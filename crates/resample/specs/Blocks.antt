@@ -1,10 +1,10 @@
 -- Blocks one after another: joined, what the stage makes of them is what it makes of the whole stream. Assumes nothing.
-use mathlib.Core.Path.{_≡_, refl, sym, ap, _∙_}
-use mathlib.Core.Bool.{Bool, true, false, cond}
+use mathlib.Core.Path.{_≡_, sym, ap, _∙_}
+use mathlib.Core.Bool.{cond}
 use mathlib.Core.List.{List, [], _∷_, _++_}
 use lib.Dec.{eqb}
 use Rattle.pcm.specs.Frames.{Frame, flat}
-use Rattle.resample.specs.Resample.{openedState, output, next, delivered, soundState, resampled, stateAfter, wholeOutput, wholeState}
+use Rattle.resample.specs.Resample.{openedState, resampled, stateAfter, wholeOutput, wholeState}
 use Rattle.resample.specs.Cut.{resampled-nil, state-nil, resampled-append, state-append}
 use Rattle.resample.specs.Delivered.{output-is-delivered, next-is-sound-state}
 use Rattle.resample.specs.declared.LinearResampler.{LinearResampler}

@@ -3,15 +3,15 @@ use mathlib.Core.Path.{_≡_, refl, sym, ap, ap₂, _∙_}
 use mathlib.Core.Logic.{_↔_}
 use mathlib.Core.Bool.{Bool, true, false, cond}
 use mathlib.Core.List.{List, [], _∷_, _++_}
-use Prim.Native.Nat.{ℕ, zero, suc, _+_, _-_, _*_, _/_, _≤_, _<_}
-use native.Mathlib.Nat.{zero-add, le-antisymm, lt-of-not-le, le-of-suc-le-suc}
+use Prim.Native.Nat.{ℕ, zero, suc, _+_, _-_, _*_, _≤_, _<_}
+use native.Mathlib.Nat.{zero-add, le-antisymm}
 use native.Mathlib.Omega.{arith}
 use lib.Dec.{eqb}
-use lib.ListN.{length, getD, length-append}
+use lib.ListN.{length, getD}
 use Rattle.pcm.specs.Frames.{Frame}
-use Rattle.resample.specs.Counting.{tabulate, ceilDiv, count, past, tabulate-ext, length-tabulate, getD-tabulate, count-reach, count-before, count-least, count-after, count-sum, past-is, ceil-is-count}
+use Rattle.resample.specs.Counting.{tabulate, ceilDiv, count, past, tabulate-ext, length-tabulate, getD-tabulate, count-before, count-least, count-after, count-sum, past-is, ceil-is-count}
 use Rattle.resample.specs.Resample.{outputAt, gaps, delivered, openedState, soundState, among, firstAt, outputs, output, next, resampled, outputCount, frameCount}
-use Rattle.resample.specs.Cut.{output-append, next-append, output-nil}
+use Rattle.resample.specs.Cut.{output-append, next-append}
 use Rattle.resample.specs.declared.LinearResampler.{LinearResampler}
 use Rattle.resample.specs.declared.ResamplerState.{ResamplerState}
 

@@ -1,7 +1,7 @@
 -- A lone resampler: opening it, and the room that it wants (document 01, resample.rs and 'The questions'). Assumes nothing.
 use mathlib.Core.Path.{_≡_, refl, sym, ap, ap₂, _∙_}
 use mathlib.Core.Bool.{Bool, true, false, cond, _&&_}
-use Prim.Native.Nat.{ℕ, zero, suc, _+_, _-_, _*_, _/_, _≤_, _<_}
+use Prim.Native.Nat.{ℕ, _+_, _-_, _*_, _/_, _≤_, _<_}
 use native.Mathlib.Nat.{div-mul-cancel, le-refl, le-trans, le-of-mul-le-mul-right, mul-le-mul-right}
 use native.Mathlib.Omega.{arith}
 use borrow.Author.Tests.{leb-true, ltb-true, eqb-true}
@@ -10,9 +10,8 @@ use lib.Dec.{leb, ltb, eqb}
 use lib.ListN.{length}
 use Rattle.pcm.specs.Frames.{Frame}
 use Rattle.pcm.specs.Formats.{rateAllowed}
-use Rattle.pcm.specs.declared.Error.{Error}
 use Rattle.pcm.specs.declared.Error.the-variants.{InvalidFormat, TooManyFrames}
-use Rattle.resample.specs.Divisor.{gcd, gcd-is, gcd-positive, reduced-rate}
+use Rattle.resample.specs.Divisor.{gcd, gcd-is, reduced-rate}
 use Rattle.resample.specs.Counting.{ceilDiv, count, count-least, ceil-reach, ceil-least, ceil-scale}
 use Rattle.resample.specs.Resample.{delivered, resampled, outputCount, frameCount}
 use Rattle.resample.specs.Delivered.{delivered-length, resampled-count}
