@@ -122,15 +122,17 @@ module _ (r : LinearResampler) (k : Rates r) (n : ℕ) where
           omega (arith, h)
       go false e = omega (arith, room-holds-output primed phase)
 
--- ---- of T frames, T at least 1, ceil((T - 1) * out / in) are delivered
-pub delivered-by-rates : (r : LinearResampler) → Rates r → (X : List Frame) → length (delivered (r .«in_r») (r .«out_r») X) ≡ ceilDiv ((length X - 1) * r .«out_rate») (r .«in_rate»)
-delivered-by-rates r k X =
-    let n : ℕ = length X - 1 in
-    let e : n * r .«out_r» * r .«in_rate» ≡ n * r .«out_rate» * r .«in_r» = omega (arith, ap (λ (m : ℕ). n * m) (k .same-ratio)) in
-    let f : r .«in_r» * r .«in_rate» ≡ r .«in_rate» * r .«in_r» = omega arith in
-    delivered-length (r .«in_r») (r .«out_r») X
-    ∙ sym (ceil-scale (n * r .«out_r») (r .«in_r») (r .«in_rate») (k .in-r .0) (k .input-rate .0))
-    ∙ ap₂ ceilDiv e f ∙ ceil-scale (n * r .«out_rate») (r .«in_rate») (r .«in_r») (k .input-rate .0) (k .in-r .0)
+-- ---- the same ceilings by the rates themselves: of T frames, T at least 1, ceil((T - 1) * out / in) are delivered
+module _ (r : LinearResampler) (k : Rates r) where
+  pub ceil-by-rates : (n : ℕ) → ceilDiv (n * r .«out_r») (r .«in_r») ≡ ceilDiv (n * r .«out_rate») (r .«in_rate»)
+  ceil-by-rates n =
+      let e : n * r .«out_r» * r .«in_rate» ≡ n * r .«out_rate» * r .«in_r» = omega (arith, ap (λ (m : ℕ). n * m) (k .same-ratio)) in
+      let f : r .«in_r» * r .«in_rate» ≡ r .«in_rate» * r .«in_r» = omega arith in
+      sym (ceil-scale (n * r .«out_r») (r .«in_r») (r .«in_rate») (k .in-r .0) (k .input-rate .0))
+      ∙ ap₂ ceilDiv e f ∙ ceil-scale (n * r .«out_rate») (r .«in_rate») (r .«in_r») (k .input-rate .0) (k .in-r .0)
+
+  pub delivered-by-rates : (X : List Frame) → length (delivered (r .«in_r») (r .«out_r») X) ≡ ceilDiv ((length X - 1) * r .«out_rate») (r .«in_rate»)
+  delivered-by-rates X = delivered-length (r .«in_r») (r .«out_r») X ∙ ceil-by-rates (length X - 1)
 
 pub room-holds-resampled : (r : LinearResampler) → Rates r → (s : ResamplerState) (xs : List Frame) → length (resampled r s xs) ≤ roomFrames (r .«in_rate») (r .«out_rate») (length xs)
 room-holds-resampled r k s xs = rw (resampled-count r s xs) (room-holds r k (length xs) (s .primed) (s .phase))
