@@ -15,8 +15,8 @@ unfoldable pub biquadTick : Coefficients → Taps → ℤ → Taps
 biquadTick k t x = record { x1 = ofInt binary32 x; x2 = t .x1; y1 = recurrence k (ofInt binary32 x) (t .x1) (t .x2) (t .y1) (t .y2); y2 = t .y1 }
 
 -- the flat filter is 1, 0, 0, 0, 0
-abbrev pub flat : Coefficients
-flat = record { b0 = ofInt binary32 (pos 1); b1 = plusZero; b2 = plusZero; a1 = plusZero; a2 = plusZero }
+abbrev pub identity : Coefficients
+identity = record { b0 = ofInt binary32 (pos 1); b1 = plusZero; b2 = plusZero; a1 = plusZero; a2 = plusZero }
 
 -- the floats of five patterns, and the patterns of five floats
 abbrev pub floats : CoefficientBits → Coefficients

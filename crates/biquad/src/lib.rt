@@ -4,7 +4,7 @@ ghost use mathlib.Core.Bool.{_&&_};
 ghost use lib.Ieee.{lt, le};
 ghost use Rattle.pcm.specs.Filters.{FilterBlock, FilteredBlock};
 ghost use Rattle.biquad.specs.Cookbook.{frequency, quality, gainAllowed, designAllowed, cookbook, withNumerator, normalised, designAnswer};
-ghost use Rattle.biquad.specs.Recurrence.{flat, recurrence, biquadTick, patterns, floats};
+ghost use Rattle.biquad.specs.Recurrence.{identity, recurrence, biquadTick, patterns, floats};
 use pcm::Error;
 use pcm::filters::FilterMemory;
 
@@ -50,7 +50,8 @@ impl Coefficients {
         a2: 0.0,
     };
 
-    // The coefficients of a kind at a rate. The sine and the cosine of w0 = 2π * f0 / rate, and Peak's a = 10^(gain_db / 40), are the caller's.
+    // The coefficients of a kind at a rate. The caller has worked out the sine and the cosine of w0 = 2π * f0 / rate and, for Peak,
+    // a = 10^(gain_db / 40).
     pub fn design(kind: BiquadKind, rate: u32, sine: f64, cosine: f64, a: f64) -> DesignAnswer
         ensures { λ d. ⌜ d ≡ designAnswer kind rate sine cosine a ⌝ }
     {
@@ -241,7 +242,7 @@ impl Biquad {
 
     // The filter that changes nothing.
     pub fn flat(rate: u32) -> Biquad
-        ensures { λ b. ⌜ b ≡ record { rate = rate; coefficients = flat; bits = patterns flat } ⌝ }
+        ensures { λ b. ⌜ b ≡ record { rate = rate; coefficients = identity; bits = patterns identity } ⌝ }
     {
         Biquad::new(rate, Coefficients::IDENTITY)
     }

@@ -2,8 +2,8 @@
 use mathlib.Core.Path.{_≡_, refl, sym, ap, ap₂, _∙_, subst}
 use mathlib.Core.Logic.{_⊎_, inl, inr}
 use mathlib.Core.Bool.{true}
-use mathlib.Core.List.{List, [], _∷_, _++_}
-use Prim.Native.Nat.{ℕ, zero, suc, _+_, _-_, _*_, _/_, _%_, _^_, _≤_, _<_, suc-le-suc, zero-le}
+use mathlib.Core.List.{List, [], _∷_}
+use Prim.Native.Nat.{ℕ, zero, suc, _+_, _-_, _*_, _/_, _^_, _≤_, _<_, suc-le-suc, zero-le}
 use native.Mathlib.Nat.{not-suc-le-zero, eq-zero-or-pos, div-add-mod', le-div-iff-mul-le}
 use native.Mathlib.Omega.{arith}
 use lib.IntN.{ℤ, pos}
@@ -16,9 +16,8 @@ use Rattle.pcm.specs.Frames.{Frame, framesOf, length-frames, length-frame, samp
 use Rattle.resample.specs.Counting.{tabulate, tabulate-ext, list-is, count, past, count-reach, past-below}
 use Rattle.resample.specs.Resample.{newest, padded, holding, outputs, output, next}
 use Rattle.resample.specs.Cut.{outputs-same}
-use Rattle.resample.specs.Place.{Parts, At, frame-is, past-frames}
+use Rattle.resample.specs.Place.{Parts, frame-is, past-frames}
 use Rattle.resample.specs.Stage.{start, Ready, Looped, Processed, output-by-loop, next-by-loop}
-use Rattle.resample.specs.declared.Position.{Position}
 use Rattle.resample.specs.declared.Delivered.{Delivered}
 use Rattle.resample.specs.declared.ResamplerState.{ResamplerState}
 use Rattle.resample.proofs.Interpolating.{total}

@@ -1,16 +1,16 @@
 -- An output frame by the samples that the loop reads, over the channel count; and the loop's progress. Assumes nothing.
 use mathlib.Core.Path.{_≡_, refl, sym, ap, ap₂, _∙_, subst}
-use mathlib.Core.List.{List, [], _∷_, _++_}
+use mathlib.Core.List.{List, [], _∷_}
 use Prim.Native.Nat.{ℕ, zero, suc, _+_, _-_, _*_, _/_, _%_, _^_, _≤_, _<_, zero-le}
-use native.Mathlib.Nat.{mul-le-mul-right, le-antisymm, div-lt-iff-lt-mul, le-div-iff-mul-le, div-le-self, zero-mul}
+use native.Mathlib.Nat.{le-antisymm, div-lt-iff-lt-mul, le-div-iff-mul-le, div-le-self, zero-mul}
 use native.Mathlib.Numerals.{add-one}
 use native.Mathlib.Omega.{arith}
 use lib.IntN.{ℤ, pos}
 use lib.ListN.{length, getD, drop, drop-of-length-le}
 use lib.Seq.{drop-cons}
-use Rattle.pcm.specs.Samples.{All, sampleAt, lowOf, highOf, encode}
+use Rattle.pcm.specs.Samples.{All, sampleAt, lowOf, highOf}
 use Rattle.pcm.specs.Frames.{Frame, framesOf, bytesOf, written, length-frames, length-frame, sample-of}
-use Rattle.pcm.specs.Writing.{Writing, writing-start, writing-done, writing-as}
+use Rattle.pcm.specs.Writing.{Writing, writing-start, writing-done}
 use Rattle.resample.specs.Pcm.{length-bytes-sized}
 use Rattle.resample.specs.Counting.{tabulate, tabulate-ext, length-tabulate, getD-tabulate, all-tabulate, count, count-before, count-after, count-least}
 use Rattle.resample.specs.Value.{value, interpolated}
@@ -18,7 +18,6 @@ use Rattle.resample.specs.Resample.{blend, outputAt, outputs}
 use Rattle.resample.specs.Place.{Parts, At, frame-is, frac-is}
 use Rattle.resample.specs.Stage.{earlierOf, earlier-first, earlier-inside, Ready, Looped}
 use Rattle.resample.specs.declared.Position.{Position}
-use Rattle.resample.specs.declared.Delivered.{Delivered}
 
 -- ---- one output
 module _ (ch : ℕ) (x : Frame) (bytes : List ℕ) (whole : length bytes % (ch * 2) ≡ 0) where

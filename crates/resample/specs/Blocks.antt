@@ -1,10 +1,10 @@
 -- Blocks one after another: joined, what the stage makes of them is what it makes of the whole stream. Assumes nothing.
-use mathlib.Core.Path.{_≡_, refl, sym, ap, _∙_}
-use mathlib.Core.Bool.{Bool, true, false, cond}
+use mathlib.Core.Path.{_≡_, sym, ap, _∙_}
+use mathlib.Core.Bool.{false, cond}
 use mathlib.Core.List.{List, [], _∷_, _++_}
 use lib.Dec.{eqb}
 use Rattle.pcm.specs.Frames.{Frame, flat}
-use Rattle.resample.specs.Resample.{openedState, output, next, delivered, soundState, resampled, stateAfter, wholeOutput, wholeState}
+use Rattle.resample.specs.Resample.{openedState, delivered, resampled, stateAfter, wholeOutput, wholeState}
 use Rattle.resample.specs.Cut.{resampled-nil, state-nil, resampled-append, state-append}
 use Rattle.resample.specs.Delivered.{output-is-delivered, next-is-sound-state}
 use Rattle.resample.specs.declared.LinearResampler.{LinearResampler}
@@ -37,6 +37,10 @@ module _ (r : LinearResampler) where
   pub state-is-whole : (X : List Frame) → stateAfter r openedState X ≡ wholeState r X
   unfolding stateAfter wholeState
   state-is-whole X = ap (cond (eqb (r .«in_rate») (r .«out_rate»)) openedState) (next-is-sound-state (r .«in_r») (r .«out_r») X)
+
+  pub whole-unequal : (X : List Frame) → eqb (r .«in_rate») (r .«out_rate») ≡ false → wholeOutput r X ≡ delivered (r .«in_r») (r .«out_r») X
+  unfolding wholeOutput
+  whole-unequal X e = rw e
 
   pub joined-is-whole : (bs : List (List Frame)) → joined r openedState bs ≡ wholeOutput r (flat bs)
   joined-is-whole bs = joined-is-resampled openedState bs ∙ resampled-is-whole (flat bs)

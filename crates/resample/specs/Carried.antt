@@ -1,17 +1,16 @@
 -- The states that the stage can be in, and that it stays in them: two samples, and 0 <= phase < in_r. Assumes nothing.
-use mathlib.Core.Path.{_≡_, refl, sym, ap, _∙_}
+use mathlib.Core.Path.{_≡_, refl}
 use mathlib.Core.Bool.{Bool, true, false, cond}
-use mathlib.Core.List.{List, [], _∷_, _++_}
-use Prim.Native.Nat.{ℕ, zero, suc, _*_, _≤_, _<_}
+use mathlib.Core.List.{List, [], _∷_}
+use Prim.Native.Nat.{ℕ, _*_, _≤_, _<_}
 use native.Mathlib.Nat.{le-refl}
 use native.Mathlib.Omega.{arith}
 use lib.Dec.{eqb}
-use lib.IntN.{ℤ, pos}
 use lib.ListN.{length}
 use mir.Facts.{sfits-lit}
-use Rattle.pcm.specs.Samples.{All, Samples}
+use Rattle.pcm.specs.Samples.{Samples}
 use Rattle.pcm.specs.Frames.{Frame, FrameOf, FramesOf}
-use Rattle.resample.specs.Counting.{past, past-below}
+use Rattle.resample.specs.Counting.{past-below}
 use Rattle.resample.specs.Resample.{gaps, newest, padded, openedState, among, firstAt, next, stateAfter}
 use Rattle.resample.specs.declared.LinearResampler.{LinearResampler}
 use Rattle.resample.specs.declared.ResamplerState.{ResamplerState}

@@ -2,7 +2,7 @@
 use mathlib.Core.Path.{_≡_, refl, sym, ap, ap₂, _∙_}
 use mathlib.Core.Bool.{Bool, true, false, cond}
 use mathlib.Core.List.{List, [], _∷_, _++_, append-nil}
-use Prim.Native.Nat.{ℕ, zero, suc, _+_, _-_, _*_, _/_, _%_, _≤_, _<_, suc-le-suc}
+use Prim.Native.Nat.{ℕ, zero, suc, _+_, _*_, _/_, _%_, _<_, suc-le-suc}
 use native.Mathlib.Nat.{zero-add, suc-add, div-lt-iff-lt-mul, mul-add-div-right, mul-add-mod-self-right, add-mul}
 use native.Mathlib.Omega.{arith}
 use lib.Dec.{eqb}

@@ -3,15 +3,15 @@ use mathlib.Core.Path.{_≡_, refl, sym, ap, ap₂, _∙_}
 use mathlib.Core.Logic.{_↔_}
 use mathlib.Core.Bool.{Bool, true, false, cond}
 use mathlib.Core.List.{List, [], _∷_, _++_}
-use Prim.Native.Nat.{ℕ, zero, suc, _+_, _-_, _*_, _/_, _≤_, _<_}
-use native.Mathlib.Nat.{zero-add, le-antisymm, lt-of-not-le, le-of-suc-le-suc}
+use Prim.Native.Nat.{ℕ, zero, suc, _+_, _-_, _*_, _≤_, _<_}
+use native.Mathlib.Nat.{zero-add, le-antisymm}
 use native.Mathlib.Omega.{arith}
 use lib.Dec.{eqb}
-use lib.ListN.{length, getD, length-append}
+use lib.ListN.{length, getD}
 use Rattle.pcm.specs.Frames.{Frame}
-use Rattle.resample.specs.Counting.{tabulate, ceilDiv, count, past, tabulate-ext, length-tabulate, getD-tabulate, count-reach, count-before, count-least, count-after, count-sum, past-is, ceil-is-count}
+use Rattle.resample.specs.Counting.{tabulate, ceilDiv, count, past, tabulate-ext, length-tabulate, getD-tabulate, count-before, count-least, count-after, count-sum, past-is, ceil-is-count, ceil-reach}
 use Rattle.resample.specs.Resample.{outputAt, gaps, delivered, openedState, soundState, among, firstAt, outputs, output, next, resampled, outputCount, frameCount}
-use Rattle.resample.specs.Cut.{output-append, next-append, output-nil}
+use Rattle.resample.specs.Cut.{output-append, next-append}
 use Rattle.resample.specs.declared.LinearResampler.{LinearResampler}
 use Rattle.resample.specs.declared.ResamplerState.{ResamplerState}
 
@@ -74,9 +74,8 @@ module _ (i o : ℕ) where
       go true = refl
       go false = ap (λ (n : ℕ). count i 0 (n * o)) (gaps-is xs)
 
-  -- from a state that K outputs of D + 1 frames led to, at the phase K * in_r - D * out_r: n frames more bring all that are due of D + 1 + n
-  pub delivered-in-all : (K D p n : ℕ) → p < i → p + D * o ≡ K * i → K + count i p (n * o) ≡ ceilDiv ((D + n) * o) i
-  delivered-in-all K D p n h e =
+  counted-in-all : (K D p n : ℕ) → p < i → p + D * o ≡ K * i → K + count i p (n * o) ≡ ceilDiv ((D + n) * o) i
+  counted-in-all K D p n h e =
       let hi : 0 < i = omega arith in
       let c : count i 0 (D * o) ≡ K = le-antisymm (count-least i hi 0 (D * o) K (omega arith)) (before hi K (omega arith)) in
       let q : past i 0 (D * o) ≡ p = omega (arith, past-is i hi 0 (D * o), ap (λ (k : ℕ). k * i) c) in
@@ -86,6 +85,21 @@ module _ (i o : ℕ) where
       before : 0 < i → (k : ℕ) → k * i < D * o + i → k ≤ count i 0 (D * o)
       before hi zero l = omega arith
       before hi (suc k) l = count-after i hi 0 (D * o) k (omega arith)
+
+  -- from a state that K outputs of D + 1 frames led to, at the phase K * in_r - D * out_r: with xs all are delivered that are due of D + 1 + n frames
+  pub delivered-in-all : (K D : ℕ) (s : ResamplerState) (xs : List Frame) → s .primed ≡ true → s .phase < i → s .phase + D * o ≡ K * i
+      → K + length (output i o s xs) ≡ ceilDiv ((D + length xs) * o) i
+  unfolding outputCount
+  delivered-in-all K D s xs b h e =
+      ap (λ (n : ℕ). K + n) (output-count s xs ∙ ap (λ (c : Bool). cond c (count i (s .phase) (length xs * o)) (count i 0 ((length xs - 1) * o))) b)
+      ∙ counted-in-all K D (s .phase) (length xs) h e
+
+  -- the phase is k * in_r - (T - 1) * out_r at the first k not delivered
+  pub sound-phase : 0 < i → (x : Frame) (xs : List Frame) → soundState i o (x ∷ xs) .phase + length xs * o ≡ length (delivered i o (x ∷ xs)) * i
+  unfolding soundState
+  sound-phase hi x xs =
+      let n : length (delivered i o (x ∷ xs)) ≡ ceilDiv (length xs * o) i = delivered-length (x ∷ xs) ∙ ap (λ (n : ℕ). ceilDiv (n * o) i) (sym (gaps-is (x ∷ xs))) in
+      omega (arith, ceil-reach i hi (length xs * o), ap (λ (k : ℕ). k * i) n)
 
 -- ---- the stage
 pub resampled-count : (r : LinearResampler) (s : ResamplerState) (xs : List Frame) → length (resampled r s xs) ≡ frameCount r (s .primed) (s .phase) (length xs)

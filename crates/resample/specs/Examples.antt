@@ -2,7 +2,7 @@
 use mathlib.Core.Path.{_≡_, refl}
 use mathlib.Core.List.{List, [], _∷_, map}
 use Prim.Native.Nat.{ℕ}
-use lib.IntN.{ℤ, pos}
+use lib.IntN.{pos}
 use Rattle.pcm.specs.Frames.{Frame}
 use Rattle.resample.specs.Divisor.{gcd, largest}
 use Rattle.resample.specs.Value.{interpolated}

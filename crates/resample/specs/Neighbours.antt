@@ -1,8 +1,8 @@
 -- Each sample delivered, from any state: between its two neighbours in its channel, near the line, and within 16 bits. Assumes nothing.
-use mathlib.Core.Path.{_≡_, refl, sym, ap, ap₂, _∙_, subst}
+use mathlib.Core.Path.{_≡_, _∙_}
 use mathlib.Core.Bool.{Bool, true, false, cond}
-use mathlib.Core.List.{List, [], _∷_, _++_}
-use Prim.Native.Nat.{ℕ, zero, suc, _+_, _-_, _*_, _/_, _%_, _≤_, _<_, suc-le-suc}
+use mathlib.Core.List.{List, [], _∷_}
+use Prim.Native.Nat.{ℕ, zero, suc, _+_, _*_, _/_, _%_, _<_, suc-le-suc}
 use native.Mathlib.Nat.{not-suc-le-zero, le-of-suc-le-suc, mod-lt, div-lt-iff-lt-mul}
 use native.Mathlib.Omega.{arith}
 use lib.Dec.{eqb}
@@ -11,7 +11,7 @@ use lib.ListN.{length, getD}
 use mir.Syntax.{w16}
 use mir.Val.{SFits}
 use mir.Facts.{sfits-lit}
-use Rattle.pcm.specs.Samples.{All, Samples}
+use Rattle.pcm.specs.Samples.{Samples}
 use Rattle.pcm.specs.Frames.{Frame, FrameOf, FramesOf}
 use Rattle.resample.specs.Counting.{tabulate, count, length-tabulate, getD-tabulate, all-tabulate, count-before, counted, factor}
 use Rattle.resample.specs.Value.{value, frac, Between, NearLine, interpolated-between, interpolated-fits, samples-apart, frac-below, value-near-line}

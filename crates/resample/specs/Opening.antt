@@ -1,7 +1,7 @@
 -- A lone resampler: opening it, and the room that it wants (document 01, resample.rs and 'The questions'). Assumes nothing.
 use mathlib.Core.Path.{_≡_, refl, sym, ap, ap₂, _∙_}
 use mathlib.Core.Bool.{Bool, true, false, cond, _&&_}
-use Prim.Native.Nat.{ℕ, zero, suc, _+_, _-_, _*_, _/_, _≤_, _<_}
+use Prim.Native.Nat.{ℕ, _+_, _-_, _*_, _/_, _≤_, _<_}
 use native.Mathlib.Nat.{div-mul-cancel, le-refl, le-trans, le-of-mul-le-mul-right, mul-le-mul-right}
 use native.Mathlib.Omega.{arith}
 use borrow.Author.Tests.{leb-true, ltb-true, eqb-true}
@@ -10,9 +10,8 @@ use lib.Dec.{leb, ltb, eqb}
 use lib.ListN.{length}
 use Rattle.pcm.specs.Frames.{Frame}
 use Rattle.pcm.specs.Formats.{rateAllowed}
-use Rattle.pcm.specs.declared.Error.{Error}
 use Rattle.pcm.specs.declared.Error.the-variants.{InvalidFormat, TooManyFrames}
-use Rattle.resample.specs.Divisor.{gcd, gcd-is, gcd-positive, reduced-rate}
+use Rattle.resample.specs.Divisor.{gcd, gcd-is, reduced-rate}
 use Rattle.resample.specs.Counting.{ceilDiv, count, count-least, ceil-reach, ceil-least, ceil-scale}
 use Rattle.resample.specs.Resample.{delivered, resampled, outputCount, frameCount}
 use Rattle.resample.specs.Delivered.{delivered-length, resampled-count}
@@ -123,15 +122,17 @@ module _ (r : LinearResampler) (k : Rates r) (n : ℕ) where
           omega (arith, h)
       go false e = omega (arith, room-holds-output primed phase)
 
--- ---- of T frames, T at least 1, ceil((T - 1) * out / in) are delivered
-pub delivered-by-rates : (r : LinearResampler) → Rates r → (X : List Frame) → length (delivered (r .«in_r») (r .«out_r») X) ≡ ceilDiv ((length X - 1) * r .«out_rate») (r .«in_rate»)
-delivered-by-rates r k X =
-    let n : ℕ = length X - 1 in
-    let e : n * r .«out_r» * r .«in_rate» ≡ n * r .«out_rate» * r .«in_r» = omega (arith, ap (λ (m : ℕ). n * m) (k .same-ratio)) in
-    let f : r .«in_r» * r .«in_rate» ≡ r .«in_rate» * r .«in_r» = omega arith in
-    delivered-length (r .«in_r») (r .«out_r») X
-    ∙ sym (ceil-scale (n * r .«out_r») (r .«in_r») (r .«in_rate») (k .in-r .0) (k .input-rate .0))
-    ∙ ap₂ ceilDiv e f ∙ ceil-scale (n * r .«out_rate») (r .«in_rate») (r .«in_r») (k .input-rate .0) (k .in-r .0)
+-- ---- the same ceilings by the rates themselves: of T frames, T at least 1, ceil((T - 1) * out / in) are delivered
+module _ (r : LinearResampler) (k : Rates r) where
+  pub ceil-by-rates : (n : ℕ) → ceilDiv (n * r .«out_r») (r .«in_r») ≡ ceilDiv (n * r .«out_rate») (r .«in_rate»)
+  ceil-by-rates n =
+      let e : n * r .«out_r» * r .«in_rate» ≡ n * r .«out_rate» * r .«in_r» = omega (arith, ap (λ (m : ℕ). n * m) (k .same-ratio)) in
+      let f : r .«in_r» * r .«in_rate» ≡ r .«in_rate» * r .«in_r» = omega arith in
+      sym (ceil-scale (n * r .«out_r») (r .«in_r») (r .«in_rate») (k .in-r .0) (k .input-rate .0))
+      ∙ ap₂ ceilDiv e f ∙ ceil-scale (n * r .«out_rate») (r .«in_rate») (r .«in_r») (k .input-rate .0) (k .in-r .0)
+
+  pub delivered-by-rates : (X : List Frame) → length (delivered (r .«in_r») (r .«out_r») X) ≡ ceilDiv ((length X - 1) * r .«out_rate») (r .«in_rate»)
+  delivered-by-rates X = delivered-length (r .«in_r») (r .«out_r») X ∙ ceil-by-rates (length X - 1)
 
 pub room-holds-resampled : (r : LinearResampler) → Rates r → (s : ResamplerState) (xs : List Frame) → length (resampled r s xs) ≤ roomFrames (r .«in_rate») (r .«out_rate») (length xs)
 room-holds-resampled r k s xs = rw (resampled-count r s xs) (room-holds r k (length xs) (s .primed) (s .phase))

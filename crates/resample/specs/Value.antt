@@ -1,5 +1,5 @@
 -- The value between two samples (document 01, resample.rs): it lies between them, near the line, and is a sample. Assumes nothing.
-use mathlib.Core.Path.{_≡_, refl, sym, ap, ap₂, _∙_, subst}
+use mathlib.Core.Path.{_≡_, refl, sym, ap, _∙_}
 use mathlib.Core.Logic.{_⊎_, inl, inr}
 use Prim.Native.Nat.{ℕ, zero, suc, _+_, _-_, _*_, _/_, _≤_, _<_}
 use native.Mathlib.Nat.{le-of-lt, div-lt-iff-lt-mul, mul-le-mul-right, mul-le-mul-left, zero-mul, div-mul-le-self, lt-div-mul-add}

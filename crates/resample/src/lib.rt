@@ -109,7 +109,7 @@ impl LinearResampler {
         NewResampler::Refused(Error::InvalidFormat)
     }
 
-    // The room wanted for any number of frames, in frames.
+    // The room wanted for any number of frames, in frames. The caller keeps the product within 64 bits.
     pub fn room_frames(self, frames: usize) -> usize
         requires { ⌜ (0 < self .«in_rate») × (frames * self .«out_rate» + self .«in_rate» < 2 ^ 64) ⌝ }
         ensures { λ r. ⌜ r ≡ roomFrames (self .«in_rate») (self .«out_rate») frames ⌝ }
@@ -132,7 +132,7 @@ impl LinearResampler {
         MaxFrames::Refused(Error::InvalidFormat)
     }
 
-    // How many frames the stage makes of so many, from the phase alone.
+    // How many frames the stage makes of so many, from the phase alone: exact, at equal rates also.
     pub fn output_frames(self, primed: bool, phase: u64, frames: usize) -> usize
         requires { ⌜ (0 < self .«in_r») × (frames * self .«out_r» + self .«in_r» < 2 ^ 64) ⌝ }
         ensures { λ r. ⌜ r ≡ frameCount self primed phase frames ⌝ }
@@ -158,13 +158,14 @@ fn frac_q32(rem: u64, out_r: u64) -> u64
 }
 
 // num / out_r frames: whole frames, 2^32nds of a frame, and out_r-ths of such.
-pub struct Position {
-    pub frame: usize,
-    pub frac: u64,
-    pub over: u64,
+struct Position {
+    frame: usize,
+    frac: u64,
+    over: u64,
 }
 
 impl Position {
+    // The position num / out_r.
     fn new(num: u64, out_r: u64) -> Position
         requires { ⌜ (0 < «out_r») × («out_r» ≤ 384000) ⌝ }
         ensures { λ r. ⌜ At «out_r» num r ⌝ }
@@ -206,8 +207,8 @@ impl Position {
         ensures { λ r. ⌜ r ≡ (self .frame - n) * «out_r» + (self .frac * «out_r» + self .over) / 4294967296 ⌝ }
     {
         let frames = self.frame - n;
-        let left = (self.frac * out_r + self.over) / 4294967296;
-        (frames as u64) * out_r + left
+        let rem = (self.frac * out_r + self.over) / 4294967296;
+        (frames as u64) * out_r + rem
     }
 }
 
@@ -234,9 +235,9 @@ fn between(input: &[u8], last: i16, i: usize, width: usize, f: u64) -> i16
 }
 
 // The frames written, and where the next one would lie.
-pub struct Delivered {
-    pub frames: usize,
-    pub at: Position,
+struct Delivered {
+    frames: usize,
+    at: Position,
 }
 
 // The outputs between the frames of a mono block, from num / out_r on in steps of in_r / out_r; position 0 is the sample `last`.
@@ -358,7 +359,8 @@ fn copy(input: &[u8], out: &mut [u8])
 }
 
 impl LinearResampler {
-    // A block of whole frames through the stage: what it brings at the front of `out`, and the state after it.
+    // A block through the stage: what it brings at the front of `out`, and the state after it.
+    // The caller brings whole frames, at least one, and room for what they bring.
     pub fn process(
         self,
         s: ResamplerState,

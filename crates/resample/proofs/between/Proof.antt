@@ -1,6 +1,6 @@
 -- `resample::between` meets its contract. Assumes nothing.
 use borrow.Author.Needs.{needs}
-use mathlib.Core.Path.{_≡_, sym, ap₂, _∙_}
+use mathlib.Core.Path.{sym, ap₂, _∙_}
 use lib.IntN.{ℤ}
 use mir.Syntax.{w16}
 use Rattle.pcm.specs.Integers.{answered, read-back}

@@ -1,7 +1,7 @@
 -- `resample::gcd` meets its contract. Assumes nothing.
 use borrow.Author.Needs.{needs}
-use mathlib.Core.Path.{_≡_, sym}
-use Prim.Native.Nat.{ℕ, _<_}
+use mathlib.Core.Path.{sym}
+use Prim.Native.Nat.{ℕ}
 use native.Mathlib.Nat.{mod-lt}
 use native.Mathlib.Omega.{arith}
 use Rattle.resample.specs.Divisor.{GreatestCommonDivisor, gcd-step, gcd-zero, gcd-is-unique}

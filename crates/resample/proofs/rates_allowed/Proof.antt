@@ -1,6 +1,6 @@
 -- `resample::rates_allowed` meets its contract. Assumes nothing.
 use borrow.Author.Needs.{needs}
-use mathlib.Core.Path.{_≡_, sym, _∙_}
+use mathlib.Core.Path.{sym, _∙_}
 use Rattle.resample.specs.Opening.{ratesAllowed}
 use Rattle.resample.proofs.rates_allowed.Statement.{statement}
 use Rattle.resample.proofs.rates_allowed.Tie as tie

@@ -1,7 +1,7 @@
 -- `resample::run_mono` meets its contract. Assumes nothing.
-use mathlib.Core.Path.{_≡_, refl, sym, ap, _∙_}
+use mathlib.Core.Path.{_≡_, ap, _∙_}
 use mathlib.Core.List.{List, [], _∷_}
-use Prim.Native.Nat.{ℕ, suc, _+_, _-_, _*_, _/_, _<_, _≤_}
+use Prim.Native.Nat.{ℕ, suc, _+_, _-_, _*_}
 use native.Mathlib.Omega.{arith}
 use lib.IntN.{ℤ}
 use lib.ListN.{length, drop}
@@ -14,7 +14,7 @@ use Rattle.pcm.specs.Writing.{writing-as, writing-put}
 use Rattle.resample.specs.Value.{interpolated}
 use Rattle.resample.specs.Resample.{outputs}
 use Rattle.resample.specs.Place.{at-sum}
-use Rattle.resample.specs.Stage.{earlierOf, Ready, Looped}
+use Rattle.resample.specs.Stage.{earlierOf, Ready}
 use Rattle.resample.proofs.Interpolating.{Progress, progress-start, progress-next, next-frame, Turn, turn, advance-ready, looped, mono-frame, bytes-mono}
 use Rattle.resample.proofs.run_mono.Statement.{statement}
 use Rattle.resample.proofs.run_mono.Tie as tie

@@ -3,6 +3,7 @@ use borrow.Author.Needs.{needs}
 use borrow.Author.Tests.{le-leb, lt-leb}
 use mathlib.Core.Path.{_≡_, sym, _∙_}
 use mathlib.Core.Bool.{true}
+use Prim.Native.Nat.{_≤_, _<_}
 use native.Mathlib.Nat.{mul-le-mul}
 use native.Mathlib.Omega.{arith}
 use Rattle.resample.specs.Opening.{ratesAllowed, maxFrames, rates-within}
@@ -14,11 +15,15 @@ allowed c = sym (c .before .rates-allowed .ensures) ∙ c .if1 .taken
 
 returns : tie.Need-returns
 unfolding maxFrames
-returns c = rw (allowed (c .before .before), le-leb _ _ (c .before .if2 .taken), c .room-frames .ensures)
+returns c =
+    let h : c .before .before .before .before .args .frames ≤ 8192 = omega (arith, c .before .if2 .taken) in
+    rw (allowed (c .before .before), le-leb _ _ h, c .room-frames .ensures)
 
 returns-2 : tie.Need-returns-2
 unfolding maxFrames
-returns-2 c = rw (allowed (c .before), lt-leb _ _ (c .if2 .left))
+returns-2 c =
+    let h : 8192 < c .before .before .before .args .frames = omega (arith, c .if2 .left) in
+    rw (allowed (c .before), lt-leb _ _ h)
 
 returns-3 : tie.Need-returns-3
 unfolding maxFrames

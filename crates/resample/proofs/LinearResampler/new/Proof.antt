@@ -2,7 +2,7 @@
 use borrow.Author.Needs.{needs}
 use mathlib.Core.Path.{_≡_, sym, _∙_}
 use mathlib.Core.Bool.{true}
-use Prim.Native.Nat.{ℕ, _<_}
+use Prim.Native.Nat.{_<_}
 use Rattle.resample.specs.Divisor.{gcd-positive}
 use Rattle.resample.specs.Opening.{ratesAllowed, opened, reduced, rates-within}
 use Rattle.resample.proofs.LinearResampler.new.Statement.{statement}

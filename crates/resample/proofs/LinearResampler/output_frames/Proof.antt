@@ -5,7 +5,7 @@ use mathlib.Core.Path.{_≡_, sym, ap, _∙_}
 use Prim.Native.Nat.{ℕ, _*_}
 use Rattle.resample.specs.Counting.{count, count-none-past}
 use Rattle.resample.specs.Resample.{frameCount}
-use Rattle.resample.specs.Stage.{start, count-by-loop}
+use Rattle.resample.specs.Stage.{count-by-loop}
 use Rattle.resample.proofs.LinearResampler.output_frames.Statement.{statement}
 use Rattle.resample.proofs.LinearResampler.output_frames.Tie as tie
 
