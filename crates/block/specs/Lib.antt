@@ -1,3 +1,4 @@
 pub mod Chain
 pub mod BlockCall
 pub mod Turns
+pub mod Bounds
