@@ -20,6 +20,17 @@ mod raw {
             out: *mut u8,
             room: usize,
         );
+        pub fn resample_block(
+            in_rate: u32,
+            out_rate: u32,
+            in_r: u64,
+            out_r: u64,
+            channels: usize,
+            input: *const u8,
+            len: usize,
+            out: *mut u8,
+            room: usize,
+        ) -> usize;
         pub fn mix_block(a: *const u8, a_len: usize, b: *const u8, b_len: usize, out: *mut u8, room: usize) -> u16;
     }
 }
@@ -68,4 +79,34 @@ pub fn biquad(k: Coefficients, channels: usize, input: &[u8], out: &mut [u8]) ->
     // SAFETY: as above.
     unsafe { raw::biquad_block(k.b0, k.b1, k.b2, k.a1, k.a2, channels, input.as_ptr(), input.len(), out.as_mut_ptr(), out.len()) };
     input.len()
+}
+
+/// The rates, and the same divided by their greatest common divisor.
+#[derive(Clone, Copy)]
+pub struct Rates {
+    pub given: [u32; 2],
+    pub reduced: [u64; 2],
+}
+
+impl Rates {
+    pub fn new(given: [u32; 2]) -> Self {
+        let [mut a, mut b] = given;
+        while b != 0 {
+            (a, b) = (b, a % b);
+        }
+        Rates { given, reduced: given.map(|rate| u64::from(rate / a)) }
+    }
+
+    fn room(self, frames: usize) -> usize {
+        (frames * self.given[1] as usize).div_ceil(self.given[0] as usize) + 1
+    }
+}
+
+pub fn resample(rates: Rates, channels: usize, input: &[u8], out: &mut [u8]) -> usize {
+    let width = channels * 2;
+    let ([in_rate, out_rate], [in_r, out_r]) = (rates.given, rates.reduced);
+    assert!((1..=2).contains(&channels) && !input.is_empty() && input.len() % width == 0);
+    assert!(rates.room(input.len() / width) * width <= out.len() && in_rate <= 384_000 && out_rate <= 384_000);
+    // SAFETY: the slices are live, and the function's `requires` is tested above.
+    unsafe { raw::resample_block(in_rate, out_rate, in_r, out_r, channels, input.as_ptr(), input.len(), out.as_mut_ptr(), out.len()) * width }
 }

@@ -2,13 +2,17 @@
 
 use crate::kernels;
 use crate::timing::Case;
-use oracle::elements::{Biquad, BiquadKind, Coefficients, DcBlock, Gain, MonoToStereo, StereoToMono, mix_i16};
+use oracle::elements::{Biquad, BiquadKind, Coefficients, DcBlock, Gain, LinearResampler, MonoToStereo, StereoToMono, mix_i16};
 use oracle::esp_core::pcm::{PcmBlock, PcmFormat, SampleFormat};
 use oracle::pipeline::Element;
 use std::cell::RefCell;
 
 fn process(stage: &mut dyn Element, channels: u16, input: &[u8], out: &mut [u8]) -> usize {
-    let format = PcmFormat { sample_rate_hz: RATE, channels, sample: SampleFormat::I16 };
+    process_at(RATE, stage, channels, input, out)
+}
+
+fn process_at(rate: u32, stage: &mut dyn Element, channels: u16, input: &[u8], out: &mut [u8]) -> usize {
+    let format = PcmFormat { sample_rate_hz: rate, channels, sample: SampleFormat::I16 };
     stage.process(PcmBlock { format, timestamp: 0, data: input }, out).unwrap()
 }
 
@@ -58,8 +62,35 @@ fn biquad(name: &'static str, channels: u16) -> Case {
     }
 }
 
+fn resample(name: &'static str, given: [u32; 2], channels: u16) -> Case {
+    let stage = RefCell::new(LinearResampler::new(given[0], given[1]).unwrap());
+    let rates = kernels::Rates::new(given);
+    let goal = if given[0] == given[1] { [None; 3] } else { [Some(1.0), Some(0.9), Some(0.9)] };
+    Case {
+        name,
+        channels: channels.into(),
+        goal,
+        source: Box::new(move |input, out| {
+            let stage = &mut *stage.borrow_mut();
+            stage.reset();
+            process_at(given[0], stage, channels, input, out)
+        }),
+        ours: Box::new(move |input, out| kernels::resample(rates, channels.into(), input, out)),
+    }
+}
+
 pub fn all() -> Vec<Case> {
     vec![
+        resample("48,000 to 16,000, mono", [48_000, 16_000], 1),
+        resample("48,000 to 16,000, stereo", [48_000, 16_000], 2),
+        resample("16,000 to 48,000, mono", [16_000, 48_000], 1),
+        resample("16,000 to 48,000, stereo", [16_000, 48_000], 2),
+        resample("44,100 to 16,000, mono", [44_100, 16_000], 1),
+        resample("44,100 to 16,000, stereo", [44_100, 16_000], 2),
+        resample("8,000 to 16,000, mono", [8_000, 16_000], 1),
+        resample("8,000 to 16,000, stereo", [8_000, 16_000], 2),
+        resample("16,000 to 16,000, mono", [16_000, 16_000], 1),
+        resample("16,000 to 16,000, stereo", [16_000, 16_000], 2),
         dc_block("DC block, mono", 1),
         dc_block("DC block, stereo", 2),
         biquad("biquad, mono", 1),

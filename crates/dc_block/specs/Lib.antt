@@ -1,2 +1,1 @@
 pub mod DcBlock
-pub mod Examples

@@ -8,6 +8,8 @@ ghost use Rattle.pcm.specs.Filters.{FilterBlock, filtered, tapsOf, memoryAtRest
 ghost use Rattle.dc_block.specs.DcBlock.{dcTick};
 ghost use Rattle.biquad.specs.Recurrence.{biquadTick};
 ghost use Rattle.gain.specs.Gain.{scaledBytes};
+ghost use Rattle.resample.specs.Stage.{Ready};
+ghost use Rattle.kernels.specs.Opened.{openedOutput};
 ghost use Rattle.channels.specs.Channels.{stereoBytes, monoBytes, mixVerdict, afterMix};
 ghost use Rattle.pcm.specs.Refusals.{numberOf};
 use biquad::Biquad;
@@ -15,6 +17,8 @@ use biquad::Coefficients;
 use dc_block::DcBlock;
 use gain::Gain;
 use pcm::filters::FilterMemory;
+use resample::LinearResampler;
+use resample::ResamplerState;
 
 #[no_mangle]
 pub extern "C" fn gain_block(q15: i32, input: &[u8], out: &mut [u8])
@@ -75,4 +79,29 @@ pub extern "C" fn biquad_block(
 {
     let stage = Biquad::new(1, Coefficients { b0, b1, b2, a1, a2 });
     stage.process(input, out, channels, FilterMemory::new());
+}
+
+// A resampler as opened. The rates, then the same divided by their greatest common divisor. The frames written.
+#[no_mangle]
+pub extern "C" fn resample_block(
+    in_rate: u32,
+    out_rate: u32,
+    in_r: u64,
+    out_r: u64,
+    channels: usize,
+    input: &[u8],
+    out: &mut [u8],
+) -> usize
+    requires { ⌜ Ready channels «in_r» «out_r» (openedOutput «in_rate» «out_rate» «in_r» «out_r» channels (now input)) (now input) (now out) ⌝ }
+    ensures { λ r. ⌜ (r ≡ length (openedOutput «in_rate» «out_rate» «in_r» «out_r» channels (now (input .entry)))) × (now (out .exit) ≡ written (bytesOf (openedOutput «in_rate» «out_rate» «in_r» «out_r» channels (now (input .entry)))) (now (out .entry))) ⌝ }
+{
+    let stage = LinearResampler {
+        in_rate,
+        out_rate,
+        in_r,
+        out_r,
+    };
+    stage
+        .process(ResamplerState::new(), channels, input, out)
+        .frames
 }

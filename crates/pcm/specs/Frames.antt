@@ -200,9 +200,13 @@ samples-fit : (ch : ℕ) (fs : List Frame) → FramesOf ch fs → Samples (flat 
 samples-fit ch [] h = tt
 samples-fit ch (f ∷ fs) h = all-append (SFits w16) f (flat fs) (h .0 .fits) (samples-fit ch fs (h .1))
 
-pub length-bytes : (ch : ℕ) (fs : List Frame) → FramesOf ch fs → length (bytesOf fs) ≡ length fs * (ch * 2)
+-- the length of the bytes needs the frames' sizes only
+pub length-bytes-sized : (ch : ℕ) (fs : List Frame) → All (λ (f : Frame). length f ≡ ch) fs → length (bytesOf fs) ≡ length fs * (ch * 2)
 unfolding bytesOf
-length-bytes ch fs h = length-encode (flat fs) ∙ omega (arith, length-flat ch fs (sizes ch fs h))
+length-bytes-sized ch fs h = length-encode (flat fs) ∙ omega (arith, length-flat ch fs h)
+
+pub length-bytes : (ch : ℕ) (fs : List Frame) → FramesOf ch fs → length (bytesOf fs) ≡ length fs * (ch * 2)
+length-bytes ch fs h = length-bytes-sized ch fs (sizes ch fs h)
 
 -- what one stage writes the next reads
 pub frames-bytes : (ch : ℕ) (fs : List Frame) → 0 < ch → FramesOf ch fs → framesOf ch (bytesOf fs) ≡ fs

@@ -9,9 +9,8 @@ use lib.IntN.{ℤ, pos}
 use lib.ListN.{length, getD, drop, drop-of-length-le}
 use lib.Seq.{drop-cons}
 use Rattle.pcm.specs.Samples.{All, sampleAt, lowOf, highOf}
-use Rattle.pcm.specs.Frames.{Frame, framesOf, bytesOf, written, length-frames, length-frame, sample-of}
+use Rattle.pcm.specs.Frames.{Frame, framesOf, bytesOf, written, length-frames, length-frame, length-bytes-sized, sample-of}
 use Rattle.pcm.specs.Writing.{Writing, writing-start, writing-done}
-use Rattle.resample.specs.Pcm.{length-bytes-sized}
 use Rattle.resample.specs.Counting.{tabulate, tabulate-ext, length-tabulate, getD-tabulate, all-tabulate, count, count-before, count-after, count-least}
 use Rattle.resample.specs.Value.{value, interpolated}
 use Rattle.resample.specs.Resample.{blend, outputAt, outputs}

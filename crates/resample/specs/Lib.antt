@@ -9,6 +9,4 @@ pub mod Carried
 pub mod Opening
 pub mod Place
 pub mod Stage
-pub mod Pcm
 pub mod Blocks
-pub mod Examples

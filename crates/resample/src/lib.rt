@@ -5,7 +5,7 @@ ghost use Prim.Native.Nat.{_+_, _-_, _*_, _/_, _≤_, _<_, _^_};
 ghost use mathlib.Core.List.{[], _∷_};
 ghost use lib.ListN.{length};
 ghost use Rattle.pcm.specs.Samples.{sampleAt};
-ghost use Rattle.pcm.specs.Frames.{framesOf, written};
+ghost use Rattle.pcm.specs.Frames.{framesOf};
 ghost use Rattle.resample.specs.Divisor.{gcd};
 ghost use Rattle.resample.specs.Value.{frac, interpolated};
 ghost use Rattle.resample.specs.Resample.{openedState, outputs, output, next, resampled, stateAfter, frameCount};
@@ -345,19 +345,6 @@ fn resample_stereo(
     }
 }
 
-// The bytes of `input` at the front of `out`.
-fn copy(input: &[u8], out: &mut [u8])
-    requires { ⌜ length (now input) ≤ length (now out) ⌝ }
-    ensures { λ _. ⌜ now (out .exit) ≡ written (now (input .entry)) (now (out .entry)) ⌝ }
-{
-    let n = input.len();
-    let mut i: usize = 0;
-    while i < n {
-        out[i] = input[i];
-        i += 1;
-    }
-}
-
 impl LinearResampler {
     // A block through the stage: what it brings at the front of `out`, and the state after it.
     // The caller brings whole frames, at least one, and room for what they bring.
@@ -372,7 +359,7 @@ impl LinearResampler {
         ensures { λ r. ⌜ Processed (resampled self s (framesOf channels (now (input .entry)))) (stateAfter self s (framesOf channels (now (input .entry)))) (now (out .entry)) (now (out .exit)) r ⌝ }
     {
         if self.in_rate == self.out_rate {
-            copy(input, out);
+            pcm::copy_front(input, out);
             return Resampled {
                 frames: input.len() / (channels * 2),
                 state: s,

@@ -2,13 +2,25 @@
 use mathlib.Core.Path.{_≡_, refl}
 use mathlib.Core.Bool.{true, false}
 use mathlib.Core.List.{List, [], _∷_, map}
+use Prim.Native.Nat.{ℕ}
 use lib.IntN.{ℤ, pos, negsuc}
-use lib.Ieee.{Float, fin}
+use lib.Ieee.{Float, fin, binary32, ofInt, div, add, sub, mul, round}
 use Rattle.pcm.specs.Integers.{floorDiv}
 use Rattle.pcm.specs.Samples.{held}
 use Rattle.pcm.specs.Rounding.{roundSat, halfUp}
+use Rattle.pcm.specs.Frames.{Frame}
+use Rattle.pcm.specs.Filters.{_⊘_, atRest, filtered}
 use Rattle.gain.specs.Gain.{heldFactor, scaled}
 use Rattle.channels.specs.Channels.{mixdown, mean, mixed}
+use Rattle.dc_block.specs.DcBlock.{dcTick}
+use Rattle.resample.specs.Divisor.{gcd, largest}
+use Rattle.resample.specs.Value.{interpolated}
+use Rattle.resample.specs.Resample.{blend, outputAt, delivered, openedState, among, firstAt, outputs, output, resampled, wholeOutput}
+use Rattle.resample.specs.Opening.{reduced}
+
+-- frames of one channel
+abbrev mono : List ℕ → List Frame
+mono xs = map (λ (x : ℕ). pos x ∷ []) xs
 
 -- (a) gain 16,384 on 1, -1, 3, -3: 1, 0, 2, -1
 a : map (scaled (pos 16384)) (pos 1 ∷ negsuc 0 ∷ pos 3 ∷ negsuc 2 ∷ []) ≡ pos 1 ∷ pos 0 ∷ pos 2 ∷ negsuc 0 ∷ []
@@ -34,6 +46,31 @@ d = refl
 e : mixed (pos 32767) (pos 1) ≡ pos 32767
 unfolding mixed held
 e = refl
+
+-- (f) 8,000 to 16,000 Hz, frames 0, 100, 50: 0, 50, 100, 75
+f : wholeOutput (reduced 8000 16000) (mono (0 ∷ 100 ∷ 50 ∷ [])) ≡ mono (0 ∷ 50 ∷ 100 ∷ 75 ∷ [])
+unfolding wholeOutput delivered outputAt blend interpolated reduced gcd largest
+f = refl
+
+-- cut after frame 0 the first call is 'nothing yet'
+f-cut : resampled (reduced 8000 16000) openedState (mono (0 ∷ [])) ≡ []
+unfolding resampled output outputs among firstAt outputAt reduced gcd largest
+f-cut = refl
+
+-- (g) 16,000 to 8,000 Hz, frames 10, 20, 30, 40: 10, 30
+g : wholeOutput (reduced 16000 8000) (mono (10 ∷ 20 ∷ 30 ∷ 40 ∷ [])) ≡ mono (10 ∷ 30 ∷ [])
+unfolding wholeOutput delivered outputAt blend interpolated reduced gcd largest
+g = refl
+
+-- (h) 1 to 3 Hz, frames 0, 3: 0, 1, 2
+h : wholeOutput (reduced 1 3) (mono (0 ∷ 3 ∷ [])) ≡ mono (0 ∷ 1 ∷ 2 ∷ [])
+unfolding wholeOutput delivered outputAt blend interpolated reduced gcd largest
+h = refl
+
+-- (i) DC block with r one half, mono, samples 100, 100, 0: 100, 50, -75
+i : filtered (dcTick (ofInt binary32 (pos 1) ⊘ ofInt binary32 (pos 2))) (atRest ∷ []) (mono (100 ∷ 100 ∷ 0 ∷ [])) ≡ (pos 100 ∷ []) ∷ (pos 50 ∷ []) ∷ (negsuc 74 ∷ []) ∷ []
+unfolding dcTick roundSat halfUp ofInt div add sub mul round
+i = refl
 
 -- (j) rounding 0.5, -0.5, 2.5, 32,767.5: 1, -1, 3, 32,767. A float is m * 2 ^ e with its sign
 j : map (roundSat 32768 32767) (fin false 1 (negsuc 0) ∷ fin true 1 (negsuc 0) ∷ fin false 5 (negsuc 0) ∷ fin false 65535 (negsuc 0) ∷ []) ≡ pos 1 ∷ negsuc 0 ∷ pos 3 ∷ pos 32767 ∷ []

@@ -13,8 +13,8 @@ use Rattle.resample.specs.Stage.{Ready, resampled-equal, state-equal, re
 use Rattle.resample.proofs.LinearResampler.process.Statement.{statement}
 use Rattle.resample.proofs.LinearResampler.process.Tie as tie
 
-copy-requires : tie.Need-copy-requires
-copy-requires c κs =
+copy-front-requires : tie.Need-copy-front-requires
+copy-front-requires c κs =
     let s = c .before .before .before .before .before in
     let a = s .args in
     let xs = framesOf (a .channels) (a .input .now) in
@@ -35,7 +35,7 @@ returns c =
     let b : Bytes l = all-by-index (λ (n : ℕ). n < 256) 0 l (λ i h. omega (arith, known .shared-slice-known .given i)) in
     record {
       frames-are = sym (ap length (resampled-equal (a .self) (a .s) xs e) ∙ length-frames (a .channels) l);
-      bytes-are = rw (resampled-equal (a .self) (a .s) xs e, bytes-frames (a .channels) l (s .pre .whole) b) (w .copy .ensures);
+      bytes-are = rw (resampled-equal (a .self) (a .s) xs e, bytes-frames (a .channels) l (s .pre .whole) b) (w .copy-front .ensures);
       state-is = sym (state-equal (a .self) (a .s) xs e);
     }
 
@@ -69,6 +69,6 @@ returns-3 c =
     rw (resampled-unequal (a .self) (a .s) xs e, state-unequal (a .self) (a .s) xs e, two t) (m .resample-stereo .ensures)
 
 pub process-spec : {M : Type 1} → statement M
-process-spec = tie.close (tie.spec copy-requires (λ c. search needs) (λ c. search needs) (λ c. search needs) returns
+process-spec = tie.close (tie.spec copy-front-requires (λ c. search needs) (λ c. search needs) (λ c. search needs) returns
     (λ c κs. rw (c .before .if2 .taken) at (unequal (c .before .before))) (λ c. search needs) returns-2
     (λ c κs. rw (two (c .before)) at (unequal (c .before .before))) (λ c. search needs) returns-3)
