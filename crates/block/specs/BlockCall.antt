@@ -19,6 +19,8 @@ use Rattle.block.specs.declared.Half.{Half}
 use Rattle.block.specs.declared.Half.the-variants as half
 use Rattle.block.specs.declared.Answer.{Answer}
 use Rattle.block.specs.declared.Answer.the-variants as answer
+use Rattle.block.specs.declared.Scratch.{Scratch}
+use Rattle.block.specs.declared.Scratch.the-variants as scratch
 use Rattle.block.specs.Chain.{chainOut, chainNext, formatOut}
 
 -- the stages that a chain has
@@ -56,14 +58,17 @@ wholeFrames f size = ltb 0 size && eqb (size % (f .channels * 2)) 0
 abbrev pub sameFormat : PcmFormat → PcmFormat → Bool
 sameFormat f g = eqb (f .rate) (g .rate) && eqb (f .channels) (g .channels)
 
--- Is the chain one that a call returned? else 1. Whole frames, at least one? else 4. At most 8,192? else 10. In the chain's format? else 2. Room? else 3
-unfoldable pub verdictOf : Pipeline → PcmFormat → ℕ → ℕ → Verdict
-verdictOf c format size shorter =
+-- Is the chain one that a call returned? else 1. Whole frames, at least one? else 4. At most 8,192? else 10
+abbrev pub sizeAsked : Pipeline → ℕ → Verdict → Verdict
+sizeAsked c size next =
     ask (legal c) InvalidFormat
     (ask (wholeFrames (c .format) size) InvalidGeometry
-    (ask (leb (size / (c .format .channels * 2)) 8192) TooManyFrames
-    (ask (sameFormat (c .format) format) Unsupported
-    (halvesVerdict (c .format) (stagesOf c) size shorter))))
+    (ask (leb (size / (c .format .channels * 2)) 8192) TooManyFrames next))
+
+-- then: In the chain's format? else 2. Room? else 3
+unfoldable pub verdictOf : Pipeline → PcmFormat → ℕ → ℕ → Verdict
+verdictOf c format size shorter =
+    sizeAsked c size (ask (sameFormat (c .format) format) Unsupported (halvesVerdict (c .format) (stagesOf c) size shorter))
 
 -- ---- an accepted block
 -- the two halves that the caller lends
@@ -130,8 +135,11 @@ accepted c timestamp bytes h = record {
   b = halvesAfter (stagesOf c) (framesOf (c .format .channels) bytes) bytes h .b;
 }
 
+abbrev pub shorterOf : ℕ → ℕ → ℕ
+shorterOf a b = cond (leb a b) a b
+
 abbrev pub shorter : List ℕ → List ℕ → ℕ
-shorter a b = cond (leb (length a) (length b)) (length a) (length b)
+shorter a b = shorterOf (length a) (length b)
 
 -- a refusal alters nothing
 abbrev pub concluded : Verdict → Pipeline → ℕ → List ℕ → Halves → Result
@@ -150,3 +158,19 @@ larger a b = cond (leb a b) b a
 unfoldable pub largest : PcmFormat → List Stage → ℕ → ℕ
 largest f [] n = 0
 largest f (s ∷ rest) n = larger (roomWanted f (s .kind) n) (largest (formatAfter f (s .kind)) rest (framesWanted (s .kind) n))
+
+abbrev pub scratchAnswer : Verdict → ℕ → Scratch
+scratchAnswer Accepted figure = scratch.Bytes figure
+scratchAnswer (Refused e) figure = scratch.Refused e
+
+-- the block itself included
+unfoldable pub scratchBytes : Pipeline → ℕ → Scratch
+scratchBytes c size = scratchAnswer (sizeAsked c size Accepted) (2 * larger size (largest (c .format) (stagesOf c) (size / (c .format .channels * 2))))
+
+-- ---- the output as a part of the half that holds it, empty if the length given exceeds that half
+abbrev pub frontOf : ℕ → List ℕ → List ℕ
+frontOf n l = cond (leb n (length l)) (take n l) []
+
+abbrev pub outputOf : Half → ℕ → List ℕ → List ℕ → List ℕ
+outputOf half.A n a b = frontOf n a
+outputOf half.B n a b = frontOf n b

@@ -4,13 +4,16 @@ use mathlib.Core.Bool.{Bool, true, false, cond, _&&_}
 use mathlib.Core.List.{List, [], _∷_}
 use mathlib.Core.Logic.{_⊎_, inl, inr}
 use Prim.Native.Nat.{ℕ, zero, suc, _+_, _-_, _*_, _/_, _≤_, _<_}
-use native.Mathlib.Nat.{le-antisymm, le-refl, le-trans, div-mul-le-self, mul-le-mul, mul-le-mul-left, mul-le-mul-right, le-of-mul-le-mul-right}
+use native.Mathlib.Nat.{le-antisymm, le-refl, le-trans, div-mul-le-self, mul-le-mul, mul-le-mul-left, mul-le-mul-right, le-of-mul-le-mul-right, div-le-self}
 use native.Mathlib.Omega.{arith}
-use borrow.Author.Tests.{leb-true, leb-false, le-leb}
-use lib.Dec.{eqb, leb}
+use borrow.Author.Tests.{leb-true, leb-false, le-leb, ltb-true}
+use lib.Dec.{eqb, leb, ltb}
+use lib.ListN.{drop}
 use Rattle.pcm.specs.declared.PcmFormat.{PcmFormat}
 use Rattle.pcm.specs.declared.Error.the-variants.{BufferTooSmall}
-use Rattle.pcm.specs.declared.Verdict.the-variants.{Accepted}
+use Rattle.pcm.specs.declared.Verdict.{Verdict}
+use Rattle.pcm.specs.declared.Verdict.the-variants.{Accepted, Refused}
+use Rattle.pcm.specs.Formats.{formatAllowed, rateAllowed, channelsAllowed}
 use Rattle.pcm.specs.Refusals.{ask}
 use Rattle.resample.specs.Counting.{ceilDiv, ceil-reach, ceil-least}
 use Rattle.resample.specs.Opening.{Rates, roomFrames}
@@ -19,8 +22,11 @@ use Rattle.stage.specs.declared.StageKind.{StageKind}
 use Rattle.stage.specs.declared.StageKind.the-variants as kind
 use Rattle.stage.specs.declared.SoundMemory.{SoundMemory}
 use Rattle.stage.specs.Stages.{formatAfter}
-use Rattle.stage.specs.Rooms.{suits, framesOut, framesWanted, roomWanted, both, Resamples, resamples, Bounded, suits-bounded, wanted-holds}
-use Rattle.block.specs.BlockCall.{suited, roomVerdict, larger, largest}
+use Rattle.stage.specs.Rooms.{suits, framesOut, framesWanted, roomWanted, both, Resamples, resamples, Bounded, suits-bounded, wanted-holds, channels-after}
+use Rattle.pipeline.specs.declared.Pipeline.{Pipeline}
+use Rattle.block.specs.declared.Scratch.the-variants as scratch
+use Rattle.block.specs.BlockCall.{suited, legal, stagesOf, sizeAsked, roomVerdict, halvesVerdict, larger, largest, scratchAnswer, scratchBytes}
+use Rattle.block.specs.Steps.{ask-yes, drop-zero}
 
 -- ---- the stages one at a time
 module _ (f : PcmFormat) (s : Stage) (rest : List Stage) (h : suited f (s ∷ rest) ≡ true) where
@@ -75,9 +81,154 @@ module _ (first : ℕ) (low : 0 < first) (high : first ≤ 384000) where
           let w : Resamples f q m = resamples f q m h in
           let j : ℕ = q .«in_rate» in
           let o : ℕ = q .«out_rate» in
-          let u : t * q .«in_rate» ≤ n * q .«out_rate» + 2 * q .«in_rate» = omega (arith, mul-le-mul-right (q .«in_rate») l, div-mul-le-self (n * q .«out_rate» + (q .«in_rate» - 1)) (q .«in_rate»)) in
-          (subst (λ (x : ℕ). t * first ≤ x * q .«out_rate») wider
-          (grown n t (q .«in_rate») (q .«out_rate») (8192 + 768000 * i) (w .rates .input-rate .0) (w .rates .output-rate .0) (subst (λ (x : ℕ). n * first ≤ (8192 + 768000 * i) * x) (w .reached) b) u),
-          w .rates .output-rate .1)
+          let u : t * q .«in_rate» ≤ n * q .«out_rate» + 2 * q .«in_rate» = omega (arith, mul-le-mul-right (q .«in_rate») l, div-mul-le-self (n * q .«out_rate» + (q .«in_rate» - 1)) (q .«in_rate»)) in (
+            subst (λ (x : ℕ). t * first ≤ x * q .«out_rate») wider
+                (grown n t (q .«in_rate») (q .«out_rate») (8192 + 768000 * i) (w .rates .input-rate .0) (w .rates .output-rate .0) (subst (λ (x : ℕ). n * first ≤ (8192 + 768000 * i) * x) (w .reached) b) u),
+            w .rates .output-rate .1,
+          )
       go (kind.DcBlock c) h l = same l
       go (kind.Biquad c) h l = same l
+
+  -- one stage further, where it delivers at most what it wants room for
+  pub onward : (f g : PcmFormat) (s : Stage) (rest : List Stage) (i n t : ℕ) → Planned first f (s ∷ rest) i n → g ≡ formatAfter f (s .kind) → t ≤ framesWanted (s .kind) n → Planned first g rest (i + 1) t
+  onward f g s rest i n t p e l =
+      let b = next-bound f (s .kind) (s .memory) i n t (suited-first f s rest (p .suit)) (p .bound) (p .rate-high) l in
+      subst (λ (x : PcmFormat). Planned first x rest (i + 1) t) (sym e)
+      (record { rate-high = b .1; channels = channels-after f (s .kind) (p .channels); suit = suited-rest f s rest (p .suit); bound = b .0 })
+
+-- ---- a chain that a call returned
+pub record Legal (c : Pipeline) : Type 0 where
+  pub few : c .count ≤ 8
+  pub rate : (0 < c .format .rate) × (c .format .rate ≤ 384000)
+  pub channels : (0 < c .format .channels) × (c .format .channels ≤ 2)
+  pub suit : suited (c .format) (stagesOf c) ≡ true
+
+pub legal-parts : (c : Pipeline) → legal c ≡ true → Legal c
+unfolding legal formatAllowed rateAllowed channelsAllowed
+legal-parts c h =
+    let p = both (leb (c .count) 8) (formatAllowed (c .format) && suited (c .format) (stagesOf c)) h in
+    let q = both (formatAllowed (c .format)) (suited (c .format) (stagesOf c)) (p .1) in
+    let a = both (channelsAllowed (c .format .channels)) (rateAllowed (c .format .rate)) (q .0) in
+    let b = both (ltb 0 (c .format .channels)) (leb (c .format .channels) 2) (a .0) in
+    let d = both (ltb 0 (c .format .rate)) (leb (c .format .rate) 384000) (a .1) in
+    record {
+      few = leb-true _ _ (p .0);
+      rate = (ltb-true _ _ (d .0), leb-true _ _ (d .1));
+      channels = (ltb-true _ _ (b .0), leb-true _ _ (b .1));
+      suit = q .1;
+    }
+
+pub begun-plan : (c : Pipeline) (frames : ℕ) → Legal c → frames ≤ 8192 → Planned (c .format .rate) (c .format) (drop 0 (stagesOf c)) 0 frames
+begun-plan c frames k h = record {
+  rate-high = k .rate .1;
+  channels = k .channels;
+  suit = rw (drop-zero (stagesOf c)) (k .suit);
+  bound = mul-le-mul (let l : frames ≤ 8192 + 768000 * 0 = omega arith in l) (le-refl (c .format .rate));
+}
+
+-- room for a stage fits a word
+pub wanted-most : (k : StageKind) (n : ℕ) → Bounded k → n ≤ 2400000000000 → framesWanted k n ≤ 922000000000000000
+unfolding framesWanted roomFrames
+wanted-most (kind.Gain g) n b h = omega arith
+wanted-most kind.MonoToStereo n b h = omega arith
+wanted-most kind.StereoToMono n b h = omega arith
+wanted-most (kind.Resample q) n b h = omega (arith, div-le-self (n * q .«out_rate» + (q .«in_rate» - 1)) (q .«in_rate»), mul-le-mul h (b .output-rate .1), b .input-rate .1)
+wanted-most (kind.DcBlock c) n b h = omega arith
+wanted-most (kind.Biquad c) n b h = omega arith
+
+pub wide : (w g : ℕ) → w ≤ 922000000000000000 → g ≤ 2 → w * (g * 2) ≤ 3688000000000000000
+wide w g h k = mul-le-mul h (let l : g * 2 ≤ 4 = omega arith in l)
+
+-- ---- scratch_bytes suffices
+larger-left : (a b : ℕ) → a ≤ larger a b
+unfolding larger
+larger-left a b = go (leb a b) refl
+  where
+    go : (t : Bool) → leb a b ≡ t → a ≤ cond t b a
+    go true e = leb-true a b e
+    go false e = le-refl a
+
+larger-right : (a b : ℕ) → b ≤ larger a b
+unfolding larger
+larger-right a b = go (leb a b) refl
+  where
+    go : (t : Bool) → leb a b ≡ t → b ≤ cond t b a
+    go true e = le-refl b
+    go false e = let l : b < a = leb-false a b e in omega arith
+
+pub larger-least : (a b m : ℕ) → a ≤ m → b ≤ m → larger a b ≤ m
+unfolding larger
+larger-least a b m h k = go (leb a b)
+  where
+    go : (t : Bool) → cond t b a ≤ m
+    go true = k
+    go false = h
+
+pub larger-assoc : (a b c : ℕ) → larger a (larger b c) ≡ larger (larger a b) c
+larger-assoc a b c =
+    le-antisymm
+    (larger-least a (larger b c) (larger (larger a b) c) (le-trans (larger-left a b) (larger-left (larger a b) c))
+    (larger-least b c (larger (larger a b) c) (le-trans (larger-right a b) (larger-left (larger a b) c)) (larger-right (larger a b) c)))
+    (larger-least (larger a b) c (larger a (larger b c)) (larger-least a b (larger a (larger b c)) (larger-left a (larger b c)) (le-trans (larger-left b c) (larger-right a (larger b c))))
+    (le-trans (larger-right b c) (larger-right a (larger b c))))
+
+pub larger-zero : (a : ℕ) → larger a 0 ≡ a
+larger-zero a = le-antisymm (larger-least a 0 a (le-refl a) (omega arith)) (larger-left a 0)
+
+pub zero-larger : (a : ℕ) → larger 0 a ≡ a
+zero-larger a = le-antisymm (larger-least 0 a a (omega arith) (le-refl a)) (larger-right 0 a)
+
+wanted-mono : (k : StageKind) (n m : ℕ) → Bounded k → n ≤ m → framesWanted k n ≤ framesWanted k m
+unfolding framesWanted roomFrames
+wanted-mono (kind.Gain g) n m b h = h
+wanted-mono kind.MonoToStereo n m b h = h
+wanted-mono kind.StereoToMono n m b h = h
+wanted-mono (kind.Resample q) n m b h =
+    let l : ceilDiv (n * q .«out_rate») (q .«in_rate») ≤ ceilDiv (m * q .«out_rate») (q .«in_rate») =
+    ceil-least (q .«in_rate») (b .input-rate .0) (n * q .«out_rate») (ceilDiv (m * q .«out_rate») (q .«in_rate»))
+    (le-trans (mul-le-mul-right (q .«out_rate») h) (ceil-reach (q .«in_rate») (b .input-rate .0) (m * q .«out_rate»))) in
+    omega (arith, l)
+wanted-mono (kind.DcBlock c) n m b h = h
+wanted-mono (kind.Biquad c) n m b h = h
+
+wanted-room : (f : PcmFormat) (k : StageKind) (n m : ℕ) → framesWanted k n ≤ framesWanted k m → roomWanted f k n ≤ roomWanted f k m
+unfolding roomWanted
+wanted-room f k n m w = mul-le-mul-right (formatAfter f k .channels * 2) w
+
+-- in any state: halves of the largest room hold every stage's
+room-suffices : (f : PcmFormat) (l : List Stage) (n m short : ℕ) → suited f l ≡ true → n ≤ m → largest f l m ≤ short → roomVerdict f l n short ≡ Accepted
+unfolding roomVerdict largest
+room-suffices f [] n m short u h k = refl
+room-suffices f (s ∷ l) n m short u h k =
+    let a = suited-first f s l u in
+    let w : framesWanted (s .kind) n ≤ framesWanted (s .kind) m = wanted-mono (s .kind) n m (suits-bounded f (s .kind) (s .memory) a) h in
+    let r : roomWanted f (s .kind) n ≤ short = le-trans (wanted-room f (s .kind) n m w) (le-trans (larger-left (roomWanted f (s .kind) m) (largest (formatAfter f (s .kind)) l (framesWanted (s .kind) m))) k) in
+    let i : roomVerdict (formatAfter f (s .kind)) l (framesOut (s .kind) (s .memory) n) short ≡ Accepted =
+    room-suffices (formatAfter f (s .kind)) l (framesOut (s .kind) (s .memory) n) (framesWanted (s .kind) m) short (suited-rest f s l u)
+    (le-trans (wanted-holds f (s .memory) (s .kind) n a) w)
+    (le-trans (larger-right (roomWanted f (s .kind) m) (largest (formatAfter f (s .kind)) l (framesWanted (s .kind) m))) k) in
+    go (eqb n 0) r i
+  where
+    go : (t : Bool) → roomWanted f (s .kind) n ≤ short → roomVerdict (formatAfter f (s .kind)) l (framesOut (s .kind) (s .memory) n) short ≡ Accepted
+        → cond t Accepted (ask (leb (roomWanted f (s .kind) n) short) (BufferTooSmall (2 * roomWanted f (s .kind) n)) (roomVerdict (formatAfter f (s .kind)) l (framesOut (s .kind) (s .memory) n) short)) ≡ Accepted
+    go true r i = refl
+    go false r i = rw (le-leb (roomWanted f (s .kind) n) short r) i
+
+figure-is : (v : Verdict) (own figure : ℕ) → scratchAnswer v own ≡ scratch.Bytes figure → (v ≡ Accepted) × (own ≡ figure)
+figure-is Accepted own figure e = (refl, cc)
+figure-is (Refused x) own figure e = (cc, cc)
+
+-- no block of that many bytes is refused for room by halves of half that figure each
+pub scratch-suffices : (c : Pipeline) (size figure short : ℕ) → scratchBytes c size ≡ scratch.Bytes figure → figure ≤ 2 * short
+    → halvesVerdict (c .format) (stagesOf c) size short ≡ Accepted
+unfolding scratchBytes
+scratch-suffices c size figure short e k =
+    let p = figure-is (sizeAsked c size Accepted) _ figure e in
+    let ok = legal-parts c (ask-yes (legal c) _ _ (p .0) .0) in
+    let n : ℕ = size / (c .format .channels * 2) in
+    let big : larger size (largest (c .format) (stagesOf c) (size / (c .format .channels * 2))) ≤ short = omega (arith, p .1) in
+    go (stagesOf c) (ok .suit) (le-trans (larger-left size _) big) (le-trans (larger-right size _) big)
+  where
+    go : (l : List Stage) → suited (c .format) l ≡ true → size ≤ short → largest (c .format) l (size / (c .format .channels * 2)) ≤ short → halvesVerdict (c .format) l size short ≡ Accepted
+    go [] u a b = rw (le-leb size short a)
+    go (s ∷ l) u a b = room-suffices (c .format) (s ∷ l) (size / (c .format .channels * 2)) (size / (c .format .channels * 2)) short u (le-refl _) b

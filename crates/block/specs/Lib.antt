@@ -1,4 +1,5 @@
 pub mod Chain
 pub mod BlockCall
 pub mod Turns
+pub mod Steps
 pub mod Bounds

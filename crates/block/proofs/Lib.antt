@@ -1,0 +1,5 @@
+mod Lengths
+mod Walk
+mod Reaching
+mod Asking
+mod Concluding

@@ -1,0 +1,8 @@
+-- `block::count_up` meets its contract. Assumes nothing.
+use borrow.Author.Needs.{needs}
+use borrow.Author.Tests.{lt-ltb, le-ltb}
+use Rattle.block.proofs.count_up.Statement.{statement}
+use Rattle.block.proofs.count_up.Tie as tie
+
+pub count-up-spec : {M : Type 1} → statement M
+count-up-spec = tie.close (tie.spec (λ c. search needs) (λ c. simp (lt-ltb _ _ (c .if1 .taken))) (λ c. simp (le-ltb _ _ (c .if1 .left))))

@@ -1,0 +1,74 @@
+-- The chain's questions and halves, one stage at a time. Assumes nothing.
+use mathlib.Core.Path.{_≡_, refl, sym, ap, ap₂, _∙_}
+use mathlib.Core.Bool.{Bool, true, false, cond}
+use mathlib.Core.List.{List, [], _∷_}
+use Prim.Native.Nat.{ℕ, suc, _+_, _*_, _≤_, _<_}
+use native.Mathlib.Numerals.{add-one}
+use native.Mathlib.Omega.{arith}
+use borrow.Author.Tests.{le-leb, lt-leb, eq-eqb, ne-eqb, leb-true}
+use lib.Dec.{leb}
+use lib.IntN.{pos}
+use lib.ListN.{length, take, drop, getD, drop-of-length-le, length-take}
+use lib.Seq.{drop-cons, getD-take, length-take-le}
+use Rattle.pcm.specs.declared.PcmFormat.{PcmFormat}
+use Rattle.pcm.specs.declared.Error.{Error}
+use Rattle.pcm.specs.declared.Error.the-variants.{BufferTooSmall}
+use Rattle.pcm.specs.declared.Verdict.{Verdict}
+use Rattle.pcm.specs.declared.Verdict.the-variants.{Accepted, Refused}
+use Rattle.pcm.specs.Refusals.{ask}
+use Rattle.stage.specs.declared.Stage.{Stage}
+use Rattle.stage.specs.Stages.{formatAfter}
+use Rattle.stage.specs.Rooms.{suits, framesOut, framesWanted, roomWanted}
+use Rattle.block.specs.BlockCall.{suited, roomVerdict}
+
+-- ---- the stages from stage i + 1 on
+pub stage-at : {A : Type 0} (l : List A) (count i : ℕ) (d : A) → i < count → count ≤ length l → drop i (take count l) ≡ getD l i d ∷ drop (i + 1) (take count l)
+stage-at {A} l count i d h k =
+    let e : length (take count l) ≡ count = length-take-le count l k in
+    drop-cons (take count l) i d (omega arith) ∙ ap₂ (λ (x : A) (n : ℕ). x ∷ drop n (take count l)) (getD-take count l i d h) (sym (add-one i))
+
+pub stages-end : {A : Type 0} (l : List A) (count i : ℕ) → count ≤ i → drop i (take count l) ≡ []
+stages-end l count i h = drop-of-length-le (take count l) {i = i} (simp length-take (omega arith))
+
+pub drop-zero : {A : Type 0} (l : List A) → drop 0 l ≡ l
+drop-zero [] = refl
+drop-zero (x ∷ l) = refl
+
+-- ---- yes to a question
+pub ask-yes : (t : Bool) (e : Error) (v : Verdict) → ask t e v ≡ Accepted → (t ≡ true) × (v ≡ Accepted)
+ask-yes true e v h = (refl, h)
+ask-yes false e v h = (cc, cc)
+
+module _ (f : PcmFormat) (s : Stage) (rest : List Stage) where
+  -- ---- what suits
+  pub suited-more : (g : PcmFormat) → suits f (s .kind) (s .memory) ≡ true → g ≡ formatAfter f (s .kind) → suited f (s ∷ rest) ≡ suited g rest
+  unfolding suited
+  suited-more g h e = rw (h, e)
+
+  pub suited-no : suits f (s .kind) (s .memory) ≡ false → suited f (s ∷ rest) ≡ false
+  unfolding suited
+  suited-no h = rw h
+
+  -- ---- room
+  module _ (n shorter : ℕ) where
+    pub room-none : n ≡ 0 → roomVerdict f (s ∷ rest) n shorter ≡ Accepted
+    unfolding roomVerdict
+    room-none h = rw (eq-eqb n 0 h)
+
+    pub room-short : (room : ℕ) → (n ≡ 0 → ⊥) → room ≡ roomWanted f (s .kind) n → shorter < room → roomVerdict f (s ∷ rest) n shorter ≡ Refused (BufferTooSmall (2 * room))
+    unfolding roomVerdict
+    room-short room h e l = rw (ne-eqb n 0 h, ← e, lt-leb room shorter l)
+
+    pub room-next : (room m : ℕ) (g : PcmFormat) → (n ≡ 0 → ⊥) → room ≡ roomWanted f (s .kind) n → room ≤ shorter
+        → m ≡ framesOut (s .kind) (s .memory) n → g ≡ formatAfter f (s .kind) → roomVerdict f (s ∷ rest) n shorter ≡ roomVerdict g rest m shorter
+    unfolding roomVerdict
+    room-next room m g h e l i j = rw (ne-eqb n 0 h, ← e, le-leb room shorter l, i, j)
+
+    -- what an accepted block's stage finds
+    pub room-first : (n ≡ 0 → ⊥) → roomVerdict f (s ∷ rest) n shorter ≡ Accepted → roomWanted f (s .kind) n ≤ shorter
+    unfolding roomVerdict
+    room-first h e = leb-true _ _ (ask-yes (leb (roomWanted f (s .kind) n) shorter) _ _ (rw (ne-eqb n 0 h) at e) .0)
+
+    pub room-rest : (n ≡ 0 → ⊥) → roomVerdict f (s ∷ rest) n shorter ≡ Accepted → roomVerdict (formatAfter f (s .kind)) rest (framesOut (s .kind) (s .memory) n) shorter ≡ Accepted
+    unfolding roomVerdict
+    room-rest h e = ask-yes (leb (roomWanted f (s .kind) n) shorter) _ _ (rw (ne-eqb n 0 h) at e) .1
