@@ -1,0 +1,5 @@
+pub mod Reset
+pub mod Calls
+pub mod Opened
+pub mod OneCall
+pub mod PlainChain
