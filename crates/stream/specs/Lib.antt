@@ -3,3 +3,5 @@ pub mod Calls
 pub mod Opened
 pub mod OneCall
 pub mod PlainChain
+pub mod PlainRoom
+pub mod Stream
