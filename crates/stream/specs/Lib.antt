@@ -5,3 +5,4 @@ pub mod OneCall
 pub mod PlainChain
 pub mod PlainRoom
 pub mod Stream
+pub mod Resamplers
