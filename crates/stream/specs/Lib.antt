@@ -6,3 +6,4 @@ pub mod PlainChain
 pub mod PlainRoom
 pub mod Stream
 pub mod Resamplers
+pub mod WholeStream
