@@ -6,4 +6,6 @@ pub mod PlainChain
 pub mod PlainRoom
 pub mod Stream
 pub mod Resamplers
+pub mod AfterCalls
 pub mod WholeStream
+pub mod Examples

@@ -1,8 +1,8 @@
 -- The plain chain (document 01, 'The whole stream'): each stage's definition on all that it has received since it was opened. Assumes nothing.
-use mathlib.Core.Path.{_≡_, refl, sym, ap, ap₂, _∙_}
-use mathlib.Core.List.{List, [], _∷_, _++_, map}
+use mathlib.Core.Path.{_≡_, refl, ap, ap₂, _∙_}
+use mathlib.Core.List.{List, [], _∷_, map}
 use Prim.Native.Nat.{ℕ, zero, suc}
-use lib.ListN.{length, take, drop}
+use lib.ListN.{take, drop}
 use Rattle.pcm.specs.Frames.{Frame}
 use Rattle.pcm.specs.Filters.{tapsOf, filtered, memoryNext, memoryAtRest}
 use Rattle.gain.specs.Gain.{scaled}

@@ -1,15 +1,15 @@
 -- The questions that a block is asked (document 01, 'The questions'), of the stages that would then take frames in the plain chain. Assumes nothing.
 use mathlib.Core.Path.{_≡_, refl, sym, ap, ap₂, _∙_, subst}
-use mathlib.Core.Bool.{Bool, true, false, cond, _&&_}
+use mathlib.Core.Bool.{Bool, true, false, cond}
 use mathlib.Core.List.{List, [], _∷_, _++_, map}
-use Prim.Native.Nat.{ℕ, suc, _*_, _/_, _<_}
+use Prim.Native.Nat.{ℕ, _*_, _/_, _<_}
 use native.Mathlib.Nat.{le-refl, suc-ne-zero}
 use borrow.Author.Tests.{lt-ltb, ne-eqb}
-use lib.Dec.{eqb, leb, ltb}
+use lib.Dec.{eqb, leb}
 use lib.ListN.{length, drop}
 use lib.Seq.{drop-at}
 use Rattle.pcm.specs.declared.PcmFormat.{PcmFormat}
-use Rattle.pcm.specs.declared.Error.the-variants.{InvalidFormat, Unsupported, BufferTooSmall, InvalidGeometry, TooManyFrames}
+use Rattle.pcm.specs.declared.Error.the-variants.{Unsupported, BufferTooSmall, InvalidGeometry, TooManyFrames}
 use Rattle.pcm.specs.declared.Verdict.{Verdict}
 use Rattle.pcm.specs.declared.Verdict.the-variants.{Accepted}
 use Rattle.pcm.specs.Formats.{formatAllowed}

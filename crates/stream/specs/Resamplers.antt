@@ -7,14 +7,14 @@ use Prim.Native.Nat.{ℕ, zero, suc, _+_, _-_, _*_, _≤_, _<_}
 use native.Mathlib.Nat.{not-suc-le-zero, le-of-suc-le-suc}
 use native.Mathlib.Omega.{arith}
 use borrow.Author.Tests.{ne-eqb}
-use lib.ListN.{length, take, drop, getD}
+use lib.ListN.{length, drop, getD}
 use mir.Facts.{sfits-lit}
 use Rattle.pcm.specs.declared.PcmFormat.{PcmFormat}
 use Rattle.pcm.specs.Samples.{All}
 use Rattle.pcm.specs.Frames.{Frame, FrameOf, FramesOf}
 use Rattle.resample.specs.declared.LinearResampler.{LinearResampler}
 use Rattle.resample.specs.Counting.{ceilDiv, ceil-reach, ceil-least}
-use Rattle.resample.specs.Resample.{delivered, openedState, soundState, output, wholeOutput, wholeState}
+use Rattle.resample.specs.Resample.{delivered, openedState, soundState, wholeOutput, wholeState}
 use Rattle.resample.specs.Delivered.{output-is-delivered, delivered-length, delivered-exactly}
 use Rattle.resample.specs.Neighbours.{DeliveredSample, sampleIn, output-frames, whole-sample}
 use Rattle.resample.specs.Opening.{Rates, reduced, delivered-by-rates}
