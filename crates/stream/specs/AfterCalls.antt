@@ -34,7 +34,7 @@ module _ (o : Pipeline) (opened : Opened o) where
     pub frames : FramesOf (o .format .channels) X
 
   -- the chain as opened
-  as-opened : stagesOf o ≡ map stageAsOpened (kindsOf o)
+  pub as-opened : stagesOf o ≡ map stageAsOpened (kindsOf o)
   as-opened = opened .silent ∙ clear-is-opened (stagesOf o)
 
   few : o .count ≤ 8
@@ -111,7 +111,7 @@ module _ (o : Pipeline) (opened : Opened o) where
       where
         go : (w : Verdict) → verdictOf (r .chain) format (length bytes) (shorter a b) ≡ w
             → Between (X ++ addedBy (plainVerdict (o .format) (kindsOf o) X format bytes (shorter a b)) Y)
-              (joinedBy (r .joined) (concluded (verdictOf (r .chain) format (length bytes) (shorter a b)) (r .chain) t bytes (record { a = a; b = b })))
+            (joinedBy (r .joined) (concluded (verdictOf (r .chain) format (length bytes) (shorter a b)) (r .chain) t bytes (record { a = a; b = b })))
         go (Refused e) h = rw (← verdict-plain v format bytes a b, h) after-refused
         go Accepted h = rw (← verdict-plain v format bytes a b, h) (after-accepted (accepts (r .chain) format bytes a b h))
 

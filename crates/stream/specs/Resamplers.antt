@@ -7,7 +7,7 @@ use Prim.Native.Nat.{ℕ, zero, suc, _+_, _-_, _*_, _≤_, _<_}
 use native.Mathlib.Nat.{not-suc-le-zero, le-of-suc-le-suc}
 use native.Mathlib.Omega.{arith}
 use borrow.Author.Tests.{ne-eqb}
-use lib.ListN.{length, drop, getD}
+use lib.ListN.{length, take, drop, getD}
 use mir.Facts.{sfits-lit}
 use Rattle.pcm.specs.declared.PcmFormat.{PcmFormat}
 use Rattle.pcm.specs.Samples.{All}
@@ -22,6 +22,7 @@ use Rattle.stage.specs.declared.StageKind.{StageKind}
 use Rattle.stage.specs.declared.StageKind.the-variants as kind
 use Rattle.stage.specs.Stages.{stageAsOpened, memoryAsOpened, formatAfter}
 use Rattle.stage.specs.Rooms.{suits, resamples, stage-frames}
+use Rattle.block.specs.Chain.{formatOut}
 use Rattle.block.specs.BlockCall.{suited}
 use Rattle.stream.specs.Opened.{RatesReduced}
 use Rattle.stream.specs.PlainChain.{plainStage, plainOut, receivedBy, deliveredBy, stage-is-plain}
@@ -89,22 +90,28 @@ resampler-is f r X suit e unequal a =
     subst (Resampled r X) (sym (whole-is-delivered r rates unequal X)) (delivered-parts r rates unequal (f .channels) X e a)
 
 -- ---- in a chain
-pub plain-frames : (f : PcmFormat) (k : StageKind) (X : List Frame) → suits f k memoryAsOpened ≡ true → FramesOf (f .channels) X → FramesOf (formatAfter f k .channels) (plainStage k X)
+plain-frames : (f : PcmFormat) (k : StageKind) (X : List Frame) → suits f k memoryAsOpened ≡ true → FramesOf (f .channels) X → FramesOf (formatAfter f k .channels) (plainStage k X)
 plain-frames f k X h a = subst (FramesOf (formatAfter f k .channels)) (stage-is-plain k X) (stage-frames f (stageAsOpened k) X h (sfits-lit tt, (sfits-lit tt, tt)) a)
+
+-- what has reached the stage that i stages stand before
+pub received-frames : (f : PcmFormat) (ks : List StageKind) (X : List Frame) → suited f (map stageAsOpened ks) ≡ true → FramesOf (f .channels) X
+    → (i : ℕ) → FramesOf (formatOut f (take i (map stageAsOpened ks)) .channels) (receivedBy i ks X)
+unfolding formatOut plainOut
+received-frames f [] X suit a zero = a
+received-frames f [] X suit a (suc i) = a
+received-frames f (k ∷ ks) X suit a zero = a
+received-frames f (k ∷ ks) X suit a (suc i) = received-frames (formatAfter f k) ks (plainStage k X) (suited-rest f k ks suit) (plain-frames f k X (suited-first f k ks suit) a) i
+
+no-stage : (k : StageKind) (ks : List StageKind) → [] ≡ k ∷ ks → ⊥
+no-stage k ks e = let z : _≡_ {A = ℕ} 0 1 = cc in omega arith
 
 -- after i stages comes the resampler r
 pub resampler-in-chain : (f : PcmFormat) (ks : List StageKind) (X : List Frame) → suited f (map stageAsOpened ks) ≡ true → All RatesReduced ks → FramesOf (f .channels) X
     → (i : ℕ) (r : LinearResampler) (later : List StageKind) → drop i ks ≡ kind.Resample r ∷ later → (r .«in_rate» ≡ r .«out_rate» → ⊥)
     → Resampled r (receivedBy i ks X) (deliveredBy i ks X)
 unfolding plainOut
-resampler-in-chain f [] X suit rates a zero r later e unequal = absurd (no-stage e)
-  where
-    no-stage : _≡_ {A = List StageKind} [] (kind.Resample r ∷ later) → ⊥
-    no-stage e = let z : _≡_ {A = ℕ} 0 1 = cc in omega arith
-resampler-in-chain f [] X suit rates a (suc i) r later e unequal = absurd (no-stage e)
-  where
-    no-stage : _≡_ {A = List StageKind} [] (kind.Resample r ∷ later) → ⊥
-    no-stage e = let z : _≡_ {A = ℕ} 0 1 = cc in omega arith
+resampler-in-chain f [] X suit rates a zero r later e unequal = absurd (no-stage (kind.Resample r) later e)
+resampler-in-chain f [] X suit rates a (suc i) r later e unequal = absurd (no-stage (kind.Resample r) later e)
 resampler-in-chain f (k ∷ ks) X suit rates a zero r later e unequal =
     let q : k ≡ kind.Resample r = cc in
     subst (λ (h : StageKind). Resampled r X (plainStage h X)) (sym q)
