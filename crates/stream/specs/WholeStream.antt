@@ -1,0 +1,61 @@
+-- Demand 3 (document 01, 'The whole stream'): a single claim about every list of calls on a freshly opened chain. Assumes nothing.
+use mathlib.Core.Path.{_≡_, sym, subst}
+use mathlib.Core.List.{List, [], _∷_}
+use Prim.Native.Nat.{ℕ}
+use lib.ListN.{length, take, drop}
+use Rattle.pcm.specs.declared.PcmFormat.{PcmFormat}
+use Rattle.pcm.specs.Samples.{All}
+use Rattle.pcm.specs.Frames.{Frame, FramesOf, bytesOf}
+use Rattle.resample.specs.declared.LinearResampler.{LinearResampler}
+use Rattle.stage.specs.declared.Stage.{Stage}
+use Rattle.stage.specs.declared.StageKind.{StageKind}
+use Rattle.stage.specs.declared.StageKind.the-variants as kind
+use Rattle.pipeline.specs.declared.Pipeline.{Pipeline}
+use Rattle.block.specs.Chain.{formatOut}
+use Rattle.block.specs.BlockCall.{stagesOf, verdictOf, shorter}
+use Rattle.stream.specs.Calls.{Call, Lent, Run, runOf}
+use Rattle.stream.specs.Opened.{kindsOf, Opened}
+use Rattle.stream.specs.PlainChain.{plainOut, plainState, receivedBy, deliveredBy}
+use Rattle.stream.specs.PlainRoom.{plainVerdict}
+use Rattle.stream.specs.Stream.{streamOf}
+use Rattle.stream.specs.Resamplers.{Resampled, received-frames, resampler-in-chain}
+use Rattle.stream.specs.AfterCalls.{Between, as-opened, suit, state-plain, output-plain, verdict-plain, begun, after-calls}
+
+-- The chain o was opened with stages of the kinds `kindsOf o`; X is the stream, the frames of accepted blocks since opening or the last
+-- reset; r holds the chain as the calls left it and their output joined. Document 01's sentences, by part:
+--   output      'The last stage's frames, as bytes, are the joined output, or the stream itself where there are no stages.'
+--   state       'Gain and the channel stages keep nothing. DC and biquad start each channel with x1, x2, y1, y2 at +0 ..' and
+--               a resampler's 'sound state is its newest frame and a phase': each stage's after all that it has received
+--   count, format, spare: a call moves nothing else of the chain but its counters
+--   frames      what the stage that i stages stand before has received has one sample of 16 bits for each channel
+--   resamplers  'A resampler of unequal rates that has received T frames delivers, in order, each output k ..', for each one in the
+--               chain, i stages standing before it: how many frames, and each sample by 'Output k's neighbours' and 'the line there'
+--   questions   'A block is accepted if the questions give it no number ..; the stages that will be reached are those that would then
+--               take frames in the plain chain': of any next block
+pub record WholeStream (o : Pipeline) (X : List Frame) (r : Run) : Type 0 where
+  pub output : r .joined ≡ bytesOf (plainOut (kindsOf o) X)
+  pub state : stagesOf (r .chain) ≡ plainState (kindsOf o) X
+  pub count : r .chain .count ≡ o .count
+  pub format : r .chain .format ≡ o .format
+  pub spare : drop (o .count) (r .chain .stages) ≡ drop (o .count) (o .stages)
+  pub frames : (i : ℕ) → FramesOf (formatOut (o .format) (take i (stagesOf o)) .channels) (receivedBy i (kindsOf o) X)
+  pub resamplers : (i : ℕ) (s : LinearResampler) (later : List StageKind) → drop i (kindsOf o) ≡ kind.Resample s ∷ later → (s .«in_rate» ≡ s .«out_rate» → ⊥)
+      → Resampled s (receivedBy i (kindsOf o) X) (deliveredBy i (kindsOf o) X)
+  pub questions : (format : PcmFormat) (bytes a b : List ℕ)
+      → verdictOf (r .chain) format (length bytes) (shorter a b) ≡ plainVerdict (o .format) (kindsOf o) X format bytes (shorter a b)
+
+-- whatever the block and reset calls, and whatever blocks and halves they bring
+pub whole-stream : (o : Pipeline) → Opened o → (calls : List Call) → All Lent calls → WholeStream o (streamOf o calls) (runOf o calls)
+whole-stream o opened calls lent =
+    let v : Between o opened (streamOf o calls) (runOf o calls) = after-calls o opened [] (record { chain = o; joined = [] }) calls (begun o opened) lent in
+    record {
+      output = output-plain o opened v;
+      state = state-plain o opened v;
+      count = v .moved .count;
+      format = v .moved .format;
+      spare = v .moved .spare;
+      frames = λ i. subst (λ (l : List Stage). FramesOf (formatOut (o .format) (take i l) .channels) (receivedBy i (kindsOf o) (streamOf o calls))) (sym (as-opened o opened))
+          (received-frames (o .format) (kindsOf o) (streamOf o calls) (suit o opened) (v .frames) i);
+      resamplers = resampler-in-chain (o .format) (kindsOf o) (streamOf o calls) (suit o opened) (opened .rates) (v .frames);
+      questions = verdict-plain o opened v;
+    }
