@@ -157,6 +157,9 @@ pub record-size : (r : Record) → length (recordBytes r) ≡ 4 + 4 * length (fi
 unfolding recordBytes
 record-size r = omega (arith, length-words (fieldsOf r))
 
+pub record-four : (r : Record) → 4 ≤ length (recordBytes r)
+record-four r = omega (arith, record-size r)
+
 pub few-record-fields : (r : Record) → length (fieldsOf r) ≤ 6
 few-record-fields (rec.Gain q15) = omega arith
 few-record-fields rec.MonoToStereo = omega arith

@@ -17,7 +17,7 @@ use Rattle.pcm.specs.declared.Verdict.the-variants.{Accepted}
 use Rattle.recipe.specs.declared.Record.{Record}
 use Rattle.recipe.specs.declared.Record.the-variants as rec
 use Rattle.recipe.specs.declared.RecordAnswer.the-variants as answer
-use Rattle.recipe.specs.Words.{Words, wordOf, wordAt, wordBytes, words, wordsBytes, word-there, word-back, words-there, words-back, words-below, count-words, length-words}
+use Rattle.recipe.specs.Words.{Words, wordOf, wordAt, wordBytes, words, wordsBytes, word-there, word-back, words-there, words-back, words-below, length-words}
 use Rattle.recipe.specs.Records.{known, known-within, fieldCount, kindOf, fieldsOf, recordBytes, recordOf, lengthAt, kindAt, recordAt, recordVerdict, readRecord, Whole, whole-record, record-size, few-record-fields}
 
 -- a record whose fields fit 32 bits
@@ -121,6 +121,17 @@ kind-again (suc (suc (suc (suc (suc zero))))) fields h = refl
 kind-again (suc (suc (suc (suc (suc (suc zero)))))) fields h = refl
 kind-again (suc (suc (suc (suc (suc (suc (suc k))))))) fields h = absurd (no-seventh k h)
 
+count-again : (k : ℕ) (l : List ℕ) → known k ≡ true → length (fieldsOf (recordOf k l)) ≡ fieldCount k
+unfolding recordOf
+count-again zero l h = absurd (absurd-known h)
+count-again (suc zero) l h = refl
+count-again (suc (suc zero)) l h = refl
+count-again (suc (suc (suc zero))) l h = refl
+count-again (suc (suc (suc (suc zero)))) l h = refl
+count-again (suc (suc (suc (suc (suc zero))))) l h = refl
+count-again (suc (suc (suc (suc (suc (suc zero)))))) l h = refl
+count-again (suc (suc (suc (suc (suc (suc (suc k))))))) l h = absurd (no-seventh k h)
+
 fields-again : (k : ℕ) (l : List ℕ) → known k ≡ true → Words (words (fieldCount k) l) → fieldsOf (recordOf k (words (fieldCount k) l)) ≡ words (fieldCount k) l
 unfolding recordOf
 fields-again zero l h f = absurd (absurd-known h)
@@ -132,18 +143,26 @@ fields-again (suc (suc (suc (suc (suc zero))))) l h f = refl
 fields-again (suc (suc (suc (suc (suc (suc zero)))))) l h f = refl
 fields-again (suc (suc (suc (suc (suc (suc (suc k))))))) l h f = absurd (no-seventh k h)
 
+module _ (left : List ℕ) (w : Whole left) where
+  count-read : length (fieldsOf (recordAt left)) ≡ fieldCount (kindAt left)
+  count-read = count-again (kindAt left) (words (fieldCount (kindAt left)) (drop 4 left)) (w .kind)
+
+  -- a record has as many bytes as its questions found there
+  pub size-read : length (recordBytes (recordAt left)) ≡ 4 + 4 * fieldCount (kindAt left)
+  size-read = record-size (recordAt left) ∙ ap (λ (m : ℕ). 4 + 4 * m) count-read
+
+  pub size-within : length (recordBytes (recordAt left)) ≤ length left
+  size-within = rw size-read (w .there)
+
+  length-again : 2 + 4 * length (fieldsOf (recordAt left)) ≡ lengthAt left
+  length-again = ap (λ (m : ℕ). 2 + 4 * m) count-read ∙ sym (w .size)
+
 -- what was read, written again, is the same bytes
 module _ (left : List ℕ) (w : Whole left) (b : Bytes left) where
   fields-kept : fieldsOf (recordAt left) ≡ words (fieldCount (kindAt left)) (drop 4 left)
   fields-kept =
       fields-again (kindAt left) (drop 4 left) (w .kind)
       (words-below (fieldCount (kindAt left)) (drop 4 left) (rw length-drop (omega (arith, w .there))) (all-drop _ 4 left b))
-
-  pub size-read : length (recordBytes (recordAt left)) ≡ 4 + 4 * fieldCount (kindAt left)
-  size-read = record-size (recordAt left) ∙ ap (λ (m : ℕ). 4 + 4 * m) (ap length fields-kept ∙ count-words (fieldCount (kindAt left)) (drop 4 left))
-
-  length-again : 2 + 4 * length (fieldsOf (recordAt left)) ≡ lengthAt left
-  length-again = ap (λ (m : ℕ). 2 + 4 * m) (ap length fields-kept ∙ count-words (fieldCount (kindAt left)) (drop 4 left)) ∙ sym (w .size)
 
   fields-bytes : wordsBytes (fieldsOf (recordAt left)) ≡ take (4 * fieldCount (kindAt left)) (drop 4 left)
   fields-bytes = ap wordsBytes fields-kept ∙ words-back (fieldCount (kindAt left)) (drop 4 left) (rw length-drop (omega (arith, w .there))) (all-drop _ 4 left b)
@@ -166,6 +185,6 @@ module _ (left : List ℕ) (w : Whole left) (b : Bytes left) where
   pub written-read : recordBytes (recordAt left) ≡ take (length (recordBytes (recordAt left))) left
   written-read =
       record-parts (recordAt left)
-      ∙ ap₂ (λ (x y : List ℕ). x ++ y) (ap (wordBytes 2) length-again ∙ pair-again 0 (omega (arith, w .four)))
+      ∙ ap₂ (λ (x y : List ℕ). x ++ y) (ap (wordBytes 2) (length-again left w) ∙ pair-again 0 (omega (arith, w .four)))
         (ap₂ (λ (x y : List ℕ). x ++ y) (ap (wordBytes 2) (kind-again (kindAt left) (words (fieldCount (kindAt left)) (drop 4 left)) (w .kind)) ∙ pair-again 2 (omega (arith, w .four))) fields-bytes)
-      ∙ parts (4 * fieldCount (kindAt left)) ∙ ap (λ (m : ℕ). take m left) (sym size-read)
+      ∙ parts (4 * fieldCount (kindAt left)) ∙ ap (λ (m : ℕ). take m left) (sym (size-read left w))
