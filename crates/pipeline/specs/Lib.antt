@@ -1,2 +1,4 @@
 pub mod Opening
 pub mod OpeningLaws
+pub mod WritingBack
+pub mod Reset

@@ -1,6 +1,9 @@
 // A chain of stages, carried by value (pipeline.rs): opened from a recipe and written back to it.
 ghost use mathlib.Core.Path.{_≡_};
+ghost use lib.ListN.{length};
 ghost use Rattle.pipeline.specs.Opening.{openCall};
+ghost use Rattle.pipeline.specs.WritingBack.{WriteOutcome, writeCall};
+ghost use Rattle.pipeline.specs.Reset.{outputFormat, resetCall};
 
 use opening::StageAnswer;
 use pcm::Error;
@@ -12,6 +15,7 @@ use stage::Stage;
 use stage::StageKind;
 
 pub mod opening;
+pub mod writing;
 
 // The stages in use are the first `count`; `format` is what reaches the first.
 pub struct Pipeline {
@@ -26,6 +30,12 @@ pub struct Pipeline {
 pub struct Opened {
     pub verdict: Verdict,
     pub chain: Pipeline,
+}
+
+// How many bytes a recipe took.
+pub enum WriteAnswer {
+    Written(usize),
+    Refused(Error),
 }
 
 impl Pipeline {
@@ -65,6 +75,69 @@ impl Pipeline {
         Opened {
             verdict: Verdict::Accepted,
             chain,
+        }
+    }
+
+    // The bytes that the chain was opened from, at the front of out.
+    pub fn write_recipe(self, out: &mut [u8]) -> WriteAnswer
+        ensures { λ r. ⌜ record { answer = r; out = now (out .exit) } ≡ writeCall self (now (out .entry)) ⌝ }
+    {
+        let count = self.count;
+        if count > 8 {
+            return WriteAnswer::Refused(Error::InvalidFormat);
+        }
+        let stages = self.stages;
+        let needed = writing::recipe_size(stages, count);
+        if out.len() < needed {
+            return WriteAnswer::Refused(Error::BufferTooSmall { needed });
+        }
+        writing::write_stages(stages, count, out);
+        WriteAnswer::Written(needed)
+    }
+
+    // The format that leaves the last stage.
+    pub fn output_format(self) -> PcmFormat
+        ensures { λ r. ⌜ r ≡ outputFormat self ⌝ }
+    {
+        let count = self.count;
+        let mut reaching = self.format;
+        if count > 8 {
+            return reaching;
+        }
+        let stages = self.stages;
+        let mut i: usize = 0;
+        while i < count {
+            let s = stages[i];
+            let kind = s.kind;
+            reaching = stage::format_after(reaching, kind);
+            i += 1;
+        }
+        reaching
+    }
+
+    // The sound memory of each stage cleared, the counters left alone.
+    pub fn reset(self) -> Pipeline
+        ensures { λ r. ⌜ r ≡ resetCall self ⌝ }
+    {
+        let count = self.count;
+        if count > 8 {
+            return self;
+        }
+        let mut stages = self.stages;
+        let mut i: usize = 0;
+        while i < count {
+            let s = stages[i];
+            let cleared = s.reset();
+            stages[i] = cleared;
+            i += 1;
+        }
+        let format = self.format;
+        Pipeline {
+            stages,
+            count,
+            format,
+            blocks: self.blocks,
+            empty_blocks: self.empty_blocks,
         }
     }
 }
