@@ -5,6 +5,7 @@ use mathlib.Core.List.{List, [], _∷_, _++_, map}
 use Prim.Native.Nat.{ℕ, zero, suc, _+_, _≤_, _<_}
 use native.Mathlib.Numerals.{add-one}
 use native.Mathlib.Omega.{arith}
+use borrow.Author.Tests.{le-leb}
 use lib.Dec.{leb}
 use lib.ListN.{length, take, drop, set, getD}
 use lib.Seq.{drop-cons, getD-take, length-take-le}
@@ -52,3 +53,13 @@ cleared-next [] i d h = absurd (let z : ⊥ = omega arith in z)
 cleared-next (s ∷ []) zero d h = refl
 cleared-next (s ∷ t ∷ l) zero d h = refl
 cleared-next (s ∷ l) (suc i) d h = ap (λ (m : List Stage). stageClear s ∷ m) (cleared-next l i d (omega arith))
+
+-- the stages in use are all cleared
+front-cleared : (n : ℕ) (l : List Stage) → take n (map stageClear (take n l) ++ drop n l) ≡ map stageClear (take n l)
+front-cleared zero l = refl
+front-cleared (suc n) [] = refl
+front-cleared (suc n) (s ∷ l) = ap (λ (m : List Stage). stageClear s ∷ m) (front-cleared n l)
+
+pub reset-stages : (c : Pipeline) → c .count ≤ 8 → stagesOf (resetCall c) ≡ map stageClear (stagesOf c)
+unfolding resetCall
+reset-stages c h = rw (le-leb (c .count) 8 h) (front-cleared (c .count) (c .stages))
