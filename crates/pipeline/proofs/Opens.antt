@@ -132,8 +132,8 @@ module _ {f : PcmFormat} {bytes : List ℕ} {stages : List Stage} {reaching : Pc
           few = let m = opens-room in omega arith;
           placed = placed-next;
           rate =
-            let a = stage-accepted (8 - count) reaching r q in
-            rw (a .1) at (rate-after reaching r (o .rate) (stage-fits (8 - count) reaching r (a .0) .1));
+              let a = stage-accepted (8 - count) reaching r q in
+              rw (a .1) at (rate-after reaching r (o .rate) (stage-fits (8 - count) reaching r (a .0) .1));
           within = opens-size;
           is = o .is ∙ ap (joined (o .done)) is-next ∙ joined-front (o .done) (stageAsOpened k) (openStages (8 - (count + 1)) (formatAfter reaching k) (drop (at + length (recordBytes r)) bytes));
         }

@@ -88,9 +88,9 @@ opened-few (suc more) f left ss e =
     ⊎-elim
     (λ n. rw (n .1) (omega arith))
     (λ p.
-      let m : p .fewer ≡ more = (let q = p .more-is in omega arith) in
-      let i = opened-few more (formatAfter f (nextKind f left)) (afterNext left) (p .rest) (rw m at (p .then)) in
-      rw (p .stages-are) (omega arith))
+    let m : p .fewer ≡ more = (let q = p .more-is in omega arith) in
+    let i = opened-few more (formatAfter f (nextKind f left)) (afterNext left) (p .rest) (rw m at (p .then)) in
+    rw (p .stages-are) (omega arith))
     (by-first (suc more) f left ss e)
 
 pub opened-recipe : (more : ℕ) (f : PcmFormat) (left : List ℕ) (ss : List Stage) → Bytes left → openStages more f left ≡ opened ss → recipeOf ss ≡ left
@@ -100,12 +100,12 @@ opened-recipe (suc more) f left ss b e =
     ⊎-elim
     (λ n. rw (n .0, n .1))
     (λ p.
-      let m : p .fewer ≡ more = (let q = p .more-is in omega arith) in
-      let n : ℕ = length (recordBytes (recordAt left)) in
-      let i : recipeOf (p .rest) ≡ drop n left = opened-recipe more (formatAfter f (nextKind f left)) (drop n left) (p .rest) (all-drop _ n left b) (rw m at (p .then)) in
-      ap recipeOf (p .stages-are)
-      ∙ ap₂ (λ (u v : List ℕ). u ++ v) (ap recordBytes (record-kept f (recordAt left)) ∙ written-read left (whole-record left (p .read)) b) i
-      ∙ take-append-drop n left)
+    let m : p .fewer ≡ more = (let q = p .more-is in omega arith) in
+    let n : ℕ = length (recordBytes (recordAt left)) in
+    let i : recipeOf (p .rest) ≡ drop n left = opened-recipe more (formatAfter f (nextKind f left)) (drop n left) (p .rest) (all-drop _ n left b) (rw m at (p .then)) in
+    ap recipeOf (p .stages-are)
+    ∙ ap₂ (λ (u v : List ℕ). u ++ v) (ap recordBytes (record-kept f (recordAt left)) ∙ written-read left (whole-record left (p .read)) b) i
+    ∙ take-append-drop n left)
     (by-first (suc more) f left ss e)
 
 -- a recipe goes by the kinds of the stages alone

@@ -75,8 +75,8 @@ recipe-next l i d h =
 pub recipe-within : (l : List Stage) (i n : ℕ) → i ≤ n → length (recipeOf (take i l)) ≤ length (recipeOf (take n l))
 recipe-within l i n h =
     let e : recipeOf (take n l) ≡ recipeOf (take i l) ++ recipeOf (drop i (take n l)) =
-      sym (ap recipeOf (take-append-drop i (take n l))) ∙ recipe-append (take i (take n l)) (drop i (take n l))
-      ∙ ap (λ (x : List Stage). recipeOf x ++ recipeOf (drop i (take n l))) (take-take i n l h) in
+    sym (ap recipeOf (take-append-drop i (take n l))) ∙ recipe-append (take i (take n l)) (drop i (take n l))
+    ∙ ap (λ (x : List Stage). recipeOf x ++ recipeOf (drop i (take n l))) (take-take i n l h) in
     omega (arith, ap length e, length-append (recipeOf (take i l)) (recipeOf (drop i (take n l))))
 
 -- a record has at most 28 bytes

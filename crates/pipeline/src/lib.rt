@@ -4,7 +4,6 @@ ghost use lib.ListN.{length};
 ghost use Rattle.pipeline.specs.Opening.{openCall};
 ghost use Rattle.pipeline.specs.WritingBack.{WriteOutcome, writeCall};
 ghost use Rattle.pipeline.specs.Reset.{outputFormat, resetCall};
-
 use opening::StageAnswer;
 use pcm::Error;
 use pcm::PcmFormat;
@@ -14,8 +13,8 @@ use recipe::RecordAnswer;
 use stage::Stage;
 use stage::StageKind;
 
-pub mod opening;
-pub mod writing;
+mod opening;
+mod writing;
 
 // The stages in use are the first `count`; `format` is what reaches the first.
 pub struct Pipeline {
@@ -100,19 +99,20 @@ impl Pipeline {
         ensures { λ r. ⌜ r ≡ outputFormat self ⌝ }
     {
         let count = self.count;
-        let mut reaching = self.format;
+        let first = self.format;
         if count > 8 {
-            return reaching;
+            return first;
         }
         let stages = self.stages;
-        let mut i: usize = 0;
-        while i < count {
-            let s = stages[i];
+        let mut leaving = first;
+        let mut passed: usize = 0;
+        while passed < count {
+            let s = stages[passed];
             let kind = s.kind;
-            reaching = stage::format_after(reaching, kind);
-            i += 1;
+            leaving = stage::format_after(leaving, kind);
+            passed += 1;
         }
-        reaching
+        leaving
     }
 
     // The sound memory of each stage cleared, the counters left alone.
@@ -124,12 +124,12 @@ impl Pipeline {
             return self;
         }
         let mut stages = self.stages;
-        let mut i: usize = 0;
-        while i < count {
-            let s = stages[i];
-            let cleared = s.reset();
-            stages[i] = cleared;
-            i += 1;
+        let mut cleared: usize = 0;
+        while cleared < count {
+            let s = stages[cleared];
+            let quiet = s.reset();
+            stages[cleared] = quiet;
+            cleared += 1;
         }
         let format = self.format;
         Pipeline {

@@ -7,10 +7,9 @@ ghost use mathlib.Core.List.{[]};
 ghost use Rattle.pcm.specs.Formats.{rateAllowed};
 ghost use Rattle.resample.specs.Opening.{ratesAllowed, reduced};
 ghost use Rattle.pipeline.specs.Opening.{gainAllowed, settingsAllowed, suits, stageKindOf, stageAnswer, verdictOf, unusedStage, chainOf};
-
-use biquad::Biquad;
 use crate::Opened;
 use crate::Pipeline;
+use biquad::Biquad;
 use dc_block::DcBlock;
 use gain::Gain;
 use pcm::Error;
@@ -119,7 +118,7 @@ fn resampler(in_rate: u32, out_rate: u32) -> StageAnswer
 {
     let made = LinearResampler::new(in_rate, out_rate);
     let NewResampler::Made(r) = made else {
-        return StageAnswer::Refused(Error::SettingOutOfRange);
+        return StageAnswer::Refused(Error::InvalidFormat);
     };
     StageAnswer::Stage(StageKind::Resample(r))
 }
@@ -148,13 +147,15 @@ pub fn stage_of(format: PcmFormat, before: usize, found: Record) -> StageAnswer
     requires { ⌜ rateAllowed (format .rate) ≡ true ⌝ }
     ensures { λ r. ⌜ r ≡ stageAnswer (8 - before) format found ⌝ }
 {
+    let within = settings_allowed(found);
+    let suited = suits(format, found);
     if before >= 8 {
         return StageAnswer::Refused(Error::TooManyStages);
     }
-    if !settings_allowed(found) {
+    if !within {
         return StageAnswer::Refused(Error::SettingOutOfRange);
     }
-    if !suits(format, found) {
+    if !suited {
         return StageAnswer::Refused(Error::Unsupported);
     }
     stage_kind(format, found)

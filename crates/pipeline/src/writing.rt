@@ -4,7 +4,6 @@ ghost use Prim.Native.Nat.{_≤_};
 ghost use lib.ListN.{length, take};
 ghost use Rattle.pcm.specs.Frames.{written};
 ghost use Rattle.pipeline.specs.WritingBack.{recordOfStage, recipeOf};
-
 use recipe::Record;
 use stage::Stage;
 use stage::StageKind;

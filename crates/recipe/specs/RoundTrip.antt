@@ -186,5 +186,5 @@ module _ (left : List ℕ) (w : Whole left) (b : Bytes left) where
   written-read =
       record-parts (recordAt left)
       ∙ ap₂ (λ (x y : List ℕ). x ++ y) (ap (wordBytes 2) (length-again left w) ∙ pair-again 0 (omega (arith, w .four)))
-        (ap₂ (λ (x y : List ℕ). x ++ y) (ap (wordBytes 2) (kind-again (kindAt left) (words (fieldCount (kindAt left)) (drop 4 left)) (w .kind)) ∙ pair-again 2 (omega (arith, w .four))) fields-bytes)
+      (ap₂ (λ (x y : List ℕ). x ++ y) (ap (wordBytes 2) (kind-again (kindAt left) (words (fieldCount (kindAt left)) (drop 4 left)) (w .kind)) ∙ pair-again 2 (omega (arith, w .four))) fields-bytes)
       ∙ parts (4 * fieldCount (kindAt left)) ∙ ap (λ (m : ℕ). take m left) (sym (size-read left w))

@@ -7,12 +7,11 @@ ghost use Rattle.pcm.specs.Frames.{written};
 ghost use Rattle.recipe.specs.Words.{words, wordsBytes};
 ghost use lib.Seq.{sets};
 ghost use Rattle.recipe.specs.Records.{known, fieldCount, recordVerdict, recordOf, readRecord, verdictOf, recordBytes, kindOf, fieldsOf};
-
 use biquad::CoefficientBits;
 use pcm::Error;
 use pcm::Verdict;
 
-pub mod words;
+mod words;
 
 // A record's fields as its bytes give them.
 pub enum Record {

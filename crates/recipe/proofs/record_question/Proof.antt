@@ -57,22 +57,32 @@ unfolding recordVerdict
 returns-4 c =
     let e = c .before in
     let n : eqb (lengthAt (leftOf (e .before .before .before .before .before .before .before .before))) (2 + 4 * fieldCount (kindAt (leftOf (e .before .before .before .before .before .before .before .before)))) ≡ false =
-      ne-eqb _ _ (λ q. c .if4 .taken (e .before .before .before .before .before .get-u16 .ensures ∙ q ∙ sym (due e))) in
+    ne-eqb _ _ (λ q. c .if4 .taken (e .before .before .before .before .before .get-u16 .ensures ∙ q ∙ sym (due e))) in
     rw (four (e .before .before .before .before .before .before), two (e .before .before .before .before), told (e .before), n)
 
 returns-5 : tie.Need-returns-5
 unfolding recordVerdict
 returns-5 c =
     let e = c .before .before in
-    rw (four (e .before .before .before .before .before .before), two (e .before .before .before .before), told (e .before), length-due (c .before),
-      rw (e .before .before .before .before .before .get-u16 .ensures) at (lt-leb _ _ (c .if5 .taken)))
+    rw (
+      four (e .before .before .before .before .before .before),
+      two (e .before .before .before .before),
+      told (e .before),
+      length-due (c .before),
+      rw (e .before .before .before .before .before .get-u16 .ensures) at (lt-leb _ _ (c .if5 .taken)),
+    )
 
 returns-6 : tie.Need-returns-6
 unfolding recordVerdict
 returns-6 c =
     let e = c .before .before in
-    rw (four (e .before .before .before .before .before .before), two (e .before .before .before .before), told (e .before), length-due (c .before),
-      rw (e .before .before .before .before .before .get-u16 .ensures) at (le-leb _ _ (c .if5 .left)))
+    rw (
+      four (e .before .before .before .before .before .before),
+      two (e .before .before .before .before),
+      told (e .before),
+      length-due (c .before),
+      rw (e .before .before .before .before .before .get-u16 .ensures) at (le-leb _ _ (c .if5 .left)),
+    )
 
 pub record-question-spec : {M : Type 1} → statement M
 record-question-spec = tie.close (tie.spec

@@ -41,7 +41,7 @@ found c = sym (read-is (c .before .before .before)) ∙ c .before .answer .given
 
 taken : (c : tie.After-known-told2 Inv-loop μ-loop)
     → stageAnswer (8 - c .before .before .before .before .before .before .before .before .before .before .loop .count) (c .before .before .before .before .before .before .before .before .before .before .loop .reaching)
-      (c .before .before .before .before .before .answer .given .0 .0) ≡ answer.Stage (c .before .made .given .0 .0)
+    (c .before .before .before .before .before .answer .given .0 .0) ≡ answer.Stage (c .before .made .given .0 .0)
 taken c = sym (c .before .before .before .stage-of .ensures) ∙ c .before .made .given .1
 
 -- by At-loop: the entry, and that the format was allowed
@@ -78,7 +78,7 @@ returns-3 c =
 
 sized : (c : tie.After-size Inv-loop μ-loop)
     → c .before .before .before .before .before .before .before .before .before .before .before .before .before .loop .at + c .size .result
-      ≤ length (c .before .before .before .before .before .before .before .before .before .before .before .before .before .before .before .before .before .before .args .recipe .now)
+    ≤ length (c .before .before .before .before .before .before .before .before .before .before .before .before .before .before .before .before .before .before .args .recipe .now)
 sized c =
     let k = c .before .before .before .before .before .before .before in
     let l = k .before .before .before .before .before .before in
@@ -113,7 +113,7 @@ loop-again c =
     let k = t .before .before .before .before in
     let l = k .before .before .before .before .before .before in
     rw (c .before .before .new .ensures, c .before .format-after .ensures, c .size .ensures)
-      (opens-next (l .loop .inv) (k .before .before .before .before .before .loop-test .taken) (found k) (taken t))
+    (opens-next (l .loop .inv) (k .before .before .before .before .before .loop-test .taken) (found k) (taken t))
 
 returns-4 : tie.Need-returns-4 Inv-loop μ-loop
 returns-4 c =

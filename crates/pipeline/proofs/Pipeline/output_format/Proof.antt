@@ -13,10 +13,10 @@ use Rattle.pipeline.proofs.Pipeline.output_format.Statement.{statement}
 use Rattle.pipeline.proofs.Pipeline.output_format.Tie as tie
 
 abbrev Inv-loop : tie.InvT-loop
-Inv-loop count reaching₀ stages i₀ reaching i = (i ≤ count) × (count ≤ 8) × (formatLeaving reaching₀ (take count stages) ≡ formatLeaving reaching (drop i (take count stages)))
+Inv-loop count stages leaving₀ passed₀ leaving passed = (passed ≤ count) × (count ≤ 8) × (formatLeaving leaving₀ (take count stages) ≡ formatLeaving leaving (drop passed (take count stages)))
 
 abbrev μ-loop : tie.MeasureT-loop
-μ-loop count reaching₀ stages i₀ reaching i = count - i
+μ-loop count stages leaving₀ passed₀ leaving passed = count - passed
 
 eight : (c : tie.Start Inv-loop μ-loop) → length (c .args .self .stages) ≡ 8
 eight c = search (unmapped, needs)
@@ -33,7 +33,7 @@ loop-again c =
     let l = c .before .before .before in
     let s = l .before .before .before .before in
     let v = l .loop .inv in
-    (search needs, v .1, v .2 ∙ leaving-next (l .loop .reaching) (s .args .self .stages) (s .args .self .count) (l .loop .i) noStage (c .before .before .loop-test .taken) (omega (arith, eight s)) ∙ rw (c .format-after .ensures))
+    (search needs, v .1, v .2 ∙ leaving-next (l .loop .leaving) (s .args .self .stages) (s .args .self .count) (l .loop .passed) noStage (c .before .before .loop-test .taken) (omega (arith, eight s)) ∙ rw (c .format-after .ensures))
 
 returns-2 : tie.Need-returns-2 Inv-loop μ-loop
 unfolding outputFormat formatLeaving
@@ -42,7 +42,7 @@ returns-2 c =
     let s = l .before .before .before .before in
     let v = l .loop .inv in
     let n = length-take-le (s .args .self .count) (s .args .self .stages) (omega (arith, eight s)) in
-    let e = drop-of-length-le (take (s .args .self .count) (s .args .self .stages)) {i = l .loop .i} (omega arith) in
+    let e = drop-of-length-le (take (s .args .self .count) (s .args .self .stages)) {i = l .loop .passed} (omega arith) in
     rw (le-leb _ 8 (v .1)) (sym (v .2 ∙ rw e))
 
 pub output-format-spec : {M : Type 1} → statement M

@@ -12,10 +12,10 @@ use Rattle.pipeline.proofs.Pipeline.reset.Statement.{statement}
 use Rattle.pipeline.proofs.Pipeline.reset.Tie as tie
 
 abbrev Inv-loop : tie.InvT-loop
-Inv-loop self count stages₀ i₀ stages i = (i ≤ count) × (count ≤ 8) × (stages ≡ clearedFront i stages₀)
+Inv-loop self count stages₀ cleared₀ stages cleared = (cleared ≤ count) × (count ≤ 8) × (stages ≡ clearedFront cleared stages₀)
 
 abbrev μ-loop : tie.MeasureT-loop
-μ-loop self count stages₀ i₀ stages i = count - i
+μ-loop self count stages₀ cleared₀ stages cleared = count - cleared
 
 eight : (c : tie.Start Inv-loop μ-loop) → length (c .args .self .stages) ≡ 8
 eight c = search (unmapped, needs)
@@ -32,14 +32,14 @@ loop-again c =
     let l = c .before .before .before in
     let s = l .before .before .before in
     let v = l .loop .inv in
-    (search needs, v .1, rw (add-one, c .reset .ensures, v .2) (cleared-next (s .args .self .stages) (l .loop .i) noStage (omega (arith, eight s))))
+    (search needs, v .1, rw (add-one, c .reset .ensures, v .2) (cleared-next (s .args .self .stages) (l .loop .cleared) noStage (omega (arith, eight s))))
 
 returns-2 : tie.Need-returns-2 Inv-loop μ-loop
 unfolding resetCall clearedFront
 returns-2 c =
     let l = c .before .before in
     let v = l .loop .inv in
-    let e : l .loop .i ≡ l .before .before .before .args .self .count = omega arith in
+    let e : l .loop .cleared ≡ l .before .before .before .args .self .count = omega arith in
     rw (le-leb _ 8 (v .1)) (rw (v .2, e))
 
 pub reset-spec : {M : Type 1} → statement M

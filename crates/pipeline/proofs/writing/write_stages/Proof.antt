@@ -68,10 +68,11 @@ loop-again c =
     let r = w .before .before in
     let l = r .before .before .before in
     let s = l .before .before in
-    let a = recipeOf (take (l .loop .i) (s .args .t1)) in
-    (search needs,
-    ap₂ _+_ (l .loop .inv .1) (c .size .ensures) ∙ sym (ap length (next-is r) ∙ length-append a (recordBytes (r .record-of .result))),
-    written-part a (recordBytes (r .record-of .result)) (s .args .out .now) (l .loop .out) (w .write .last .1 .0) (l .loop .at) (l .loop .inv .1) (l .loop .inv .2) (w .write .ensures) ∙ ap (λ (x : List ℕ). written x (s .args .out .now)) (sym (next-is r)))
+    let a = recipeOf (take (l .loop .i) (s .args .t1)) in (
+      search needs,
+      ap₂ _+_ (l .loop .inv .1) (c .size .ensures) ∙ sym (ap length (next-is r) ∙ length-append a (recordBytes (r .record-of .result))),
+      written-part a (recordBytes (r .record-of .result)) (s .args .out .now) (l .loop .out) (w .write .last .1 .0) (l .loop .at) (l .loop .inv .1) (l .loop .inv .2) (w .write .ensures) ∙ ap (λ (x : List ℕ). written x (s .args .out .now)) (sym (next-is r)),
+    )
 
 pub write-stages-spec : {M : Type 1} → statement M
 write-stages-spec = tie.close (tie.spec Inv-loop μ-loop
