@@ -1,5 +1,5 @@
 -- Document 01, 'On the cupping table', (k) and (l), of the definitions. Assumes nothing.
-use mathlib.Core.Path.{_≡_, refl, ap, _∙_}
+use mathlib.Core.Path.{_≡_, refl}
 use mathlib.Core.Bool.{true}
 use mathlib.Core.List.{[], _∷_}
 use lib.IntN.{pos}

@@ -1,5 +1,5 @@
 -- Opening a chain: the questions in their order, from a format and bytes to a chain or a refusal (document 01, 'The recipe' and 'The questions'). Definitions only.
-use mathlib.Core.Bool.{Bool, true, false}
+use mathlib.Core.Bool.{Bool, true}
 use mathlib.Core.List.{List, [], _∷_, _++_}
 use Prim.Native.Nat.{ℕ, zero, suc, _-_}
 use lib.Dec.{leb, ltb, eqb}

@@ -1,12 +1,12 @@
 -- One record more, by the outcome of its questions. Assumes nothing.
-use mathlib.Core.Path.{_≡_, refl, sym, ap, _∙_}
+use mathlib.Core.Path.{_≡_, refl}
 use mathlib.Core.Bool.{Bool, true, false, _&&_}
-use mathlib.Core.List.{List, [], _∷_, _++_}
-use Prim.Native.Nat.{ℕ, zero, suc, _+_, _-_, _≤_, _<_}
+use mathlib.Core.List.{List, [], _∷_}
+use Prim.Native.Nat.{ℕ, zero, suc, _<_}
 use native.Mathlib.Omega.{arith}
 use borrow.Author.Tests.{ltb-true}
 use lib.Dec.{ltb}
-use lib.ListN.{length, drop}
+use lib.ListN.{length}
 use Rattle.pcm.specs.declared.PcmFormat.{PcmFormat}
 use Rattle.pcm.specs.declared.Error.{Error}
 use Rattle.pcm.specs.declared.Error.the-variants.{Unsupported, TooManyStages, SettingOutOfRange}
@@ -16,14 +16,13 @@ use Rattle.pcm.specs.Formats.{rateAllowed}
 use Rattle.pcm.specs.Refusals.{ask}
 use Rattle.resample.specs.Opening.{ratesAllowed, reduced}
 use Rattle.stage.specs.declared.StageKind.{StageKind}
-use Rattle.stage.specs.declared.Stage.{Stage}
 use Rattle.stage.specs.Stages.{stageAsOpened, formatAfter}
 use Rattle.recipe.specs.declared.Record.{Record}
 use Rattle.recipe.specs.declared.Record.the-variants as rec
 use Rattle.recipe.specs.declared.RecordAnswer.the-variants as read
-use Rattle.recipe.specs.Records.{recordBytes, recordAt, recordVerdict, readRecord, answered}
+use Rattle.recipe.specs.Records.{recordAt, recordVerdict, readRecord, answered}
 use Rattle.pipeline.specs.declared.opening.StageAnswer.the-variants as answer
-use Rattle.pipeline.specs.Opening.{Stages, opened, refused, settingsAllowed, suits, stageVerdict, stageKindOf, answerOf, stageAnswer, asked, front, whileLeft, nextKind, afterNext, openStages}
+use Rattle.pipeline.specs.Opening.{opened, refused, settingsAllowed, suits, stageVerdict, stageKindOf, answerOf, stageAnswer, front, nextKind, afterNext, openStages}
 
 no-way : {X : Type 0} → _≡_ {A = ℕ} 0 1 → X
 no-way e = absurd (let z : ⊥ = omega arith in z)

@@ -2,15 +2,13 @@
 use mathlib.Core.Path.{_≡_, refl, sym, ap, ap₂, _∙_}
 use mathlib.Core.Bool.{Bool, true, false}
 use mathlib.Core.List.{List, [], _∷_, _++_, map}
-use Prim.Native.Nat.{ℕ, zero, suc, _+_, _-_, _≤_, _<_}
+use Prim.Native.Nat.{ℕ, zero, suc, _-_, _≤_, _<_}
 use mathlib.Core.Logic.{_⊎_, inl, inr, ⊎-elim}
 use native.Mathlib.Omega.{arith}
 use borrow.Author.Tests.{le-leb}
-use lib.Dec.{leb}
 use lib.ListN.{length, take, drop, replicate, take-append-drop}
 use lib.Seq.{take-at}
 use Rattle.pcm.specs.declared.PcmFormat.{PcmFormat}
-use Rattle.pcm.specs.declared.Error.{Error}
 use Rattle.pcm.specs.declared.Verdict.{Verdict}
 use Rattle.pcm.specs.declared.Verdict.the-variants.{Accepted, Refused}
 use Rattle.pcm.specs.Formats.{formatAllowed}
@@ -27,7 +25,7 @@ use Rattle.recipe.specs.RoundTrip.{written-read}
 use Rattle.pipeline.specs.declared.Pipeline.{Pipeline}
 use Rattle.pipeline.specs.declared.Opened.{Opened}
 use Rattle.pipeline.specs.declared.WriteAnswer.the-variants as answer
-use Rattle.pipeline.specs.Opening.{Stages, opened, refused, stageVerdict, stageKindOf, asked, front, nextKind, afterNext, openStages, unusedStage, chainOf, openedOf, openCall}
+use Rattle.pipeline.specs.Opening.{Stages, opened, refused, stageVerdict, stageKindOf, front, nextKind, afterNext, openStages, unusedStage, chainOf, openCall}
 use Rattle.pipeline.specs.OpeningLaws.{open-none, open-short, open-unfit, open-next, stage-fits}
 use Rattle.pipeline.specs.Reset.{resetCall, reset-stages}
 use Rattle.pipeline.specs.WritingBack.{recordOfStage, recipeOf, stagesOf, writeVerdict, writeCall}

@@ -1,7 +1,7 @@
 -- Writing back: the bytes of a chain's recipe (document 01, 'The recipe' and 'Writing a recipe'). Assumes nothing.
 use mathlib.Core.Path.{_≡_, refl, sym, ap, ap₂, _∙_}
 use mathlib.Core.List.{List, [], _∷_, _++_, append-assoc, append-nil}
-use Prim.Native.Nat.{ℕ, suc, _+_, _*_, _≤_, _<_}
+use Prim.Native.Nat.{ℕ, _+_, _≤_, _<_}
 use native.Mathlib.Numerals.{add-one}
 use native.Mathlib.Omega.{arith}
 use lib.Dec.{leb}
@@ -17,7 +17,7 @@ use Rattle.stage.specs.declared.StageKind.the-variants as kind
 use Rattle.stage.specs.declared.Stage.{Stage}
 use Rattle.recipe.specs.declared.Record.{Record}
 use Rattle.recipe.specs.declared.Record.the-variants as rec
-use Rattle.recipe.specs.Records.{recordBytes, fieldsOf, record-size, few-record-fields}
+use Rattle.recipe.specs.Records.{recordBytes, record-size, few-record-fields}
 use Rattle.pipeline.specs.declared.Pipeline.{Pipeline}
 use Rattle.pipeline.specs.declared.WriteAnswer.{WriteAnswer}
 use Rattle.pipeline.specs.declared.WriteAnswer.the-variants as answer

@@ -1,8 +1,7 @@
 // A chain of stages, carried by value (pipeline.rs): opened from a recipe and written back to it.
 ghost use mathlib.Core.Path.{_≡_};
-ghost use lib.ListN.{length};
 ghost use Rattle.pipeline.specs.Opening.{openCall};
-ghost use Rattle.pipeline.specs.WritingBack.{WriteOutcome, writeCall};
+ghost use Rattle.pipeline.specs.WritingBack.{writeCall};
 ghost use Rattle.pipeline.specs.Reset.{outputFormat, resetCall};
 use opening::StageAnswer;
 use pcm::Error;

@@ -1,23 +1,21 @@
 -- The records of a recipe and the questions that their bytes are asked (document 01, 'The recipe' and 'The questions'). Assumes nothing.
-use mathlib.Core.Path.{_≡_, refl, sym, ap, ap₂, _∙_}
-use mathlib.Core.Bool.{Bool, true, false, cond, _&&_}
+use mathlib.Core.Path.{_≡_, refl, _∙_}
+use mathlib.Core.Bool.{Bool, true, false, _&&_}
 use mathlib.Core.List.{List, [], _∷_, _++_}
 use Prim.Native.Nat.{ℕ, zero, suc, _+_, _-_, _*_, _≤_, _<_}
 use native.Mathlib.Nat.{zero-add}
 use native.Mathlib.Omega.{arith}
 use borrow.Author.Tests.{ltb-true, leb-true, eqb-true}
 use lib.Dec.{leb, ltb, eqb}
-use lib.IntN.{ℤ}
-use lib.ListN.{length, getD, take, drop, length-append}
+use lib.ListN.{length, getD, drop}
 use lib.Seq.{sets, sets-eq}
 use mir.Syntax.{w32}
-use mir.Val.{SFits, toZ, ofZ}
+use mir.Val.{toZ, ofZ}
 use Rattle.pcm.specs.Refusals.{ask}
 use Rattle.pcm.specs.declared.Error.{Error}
 use Rattle.pcm.specs.declared.Error.the-variants.{ShortRecord, UnknownStage, RecordLength}
 use Rattle.pcm.specs.declared.Verdict.{Verdict}
 use Rattle.pcm.specs.declared.Verdict.the-variants.{Accepted, Refused}
-use Rattle.biquad.specs.declared.CoefficientBits.{CoefficientBits}
 use Rattle.recipe.specs.declared.Record.{Record}
 use Rattle.recipe.specs.declared.Record.the-variants as rec
 use Rattle.recipe.specs.declared.RecordAnswer.{RecordAnswer}

@@ -1,15 +1,15 @@
 -- What is written reads back, and what was read is written back (document 01, 'The recipe'). Assumes nothing.
 use mathlib.Core.Path.{_≡_, refl, sym, ap, ap₂, _∙_}
 use mathlib.Core.Bool.{true, false}
-use mathlib.Core.List.{List, [], _∷_, _++_, append-assoc}
-use Prim.Native.Nat.{ℕ, zero, suc, _+_, _*_, _/_, _%_, _^_, _≤_, _<_}
+use mathlib.Core.List.{List, [], _∷_, _++_}
+use Prim.Native.Nat.{ℕ, zero, suc, _+_, _*_, _≤_, _<_}
 use native.Mathlib.Omega.{arith}
 use borrow.Author.Tests.{le-leb, eq-eqb}
 use lib.Dec.{leb, eqb}
 use lib.ListN.{length, take, drop, length-append, length-drop}
 use lib.Seq.{take-add, drop-drop, length-take-le}
 use mir.Syntax.{w32}
-use mir.Val.{SFits, toZ, ofZ}
+use mir.Val.{SFits}
 use mir.Facts.{toZ-ofZ, ofZ-toZ, fits-ofZ}
 use Rattle.pcm.specs.Samples.{Bytes}
 use Rattle.pcm.specs.Frames.{all-take, all-drop}
@@ -17,8 +17,8 @@ use Rattle.pcm.specs.declared.Verdict.the-variants.{Accepted}
 use Rattle.recipe.specs.declared.Record.{Record}
 use Rattle.recipe.specs.declared.Record.the-variants as rec
 use Rattle.recipe.specs.declared.RecordAnswer.the-variants as answer
-use Rattle.recipe.specs.Words.{Words, wordOf, wordAt, wordBytes, words, wordsBytes, word-there, word-back, words-there, words-back, words-below, length-words}
-use Rattle.recipe.specs.Records.{known, known-within, fieldCount, kindOf, fieldsOf, recordBytes, recordOf, lengthAt, kindAt, recordAt, recordVerdict, readRecord, Whole, whole-record, record-size, few-record-fields}
+use Rattle.recipe.specs.Words.{Words, wordAt, wordBytes, words, wordsBytes, word-there, word-back, words-there, words-back, words-below}
+use Rattle.recipe.specs.Records.{known, known-within, fieldCount, kindOf, fieldsOf, recordBytes, recordOf, lengthAt, kindAt, recordAt, recordVerdict, readRecord, Whole, record-size, few-record-fields}
 
 -- a record whose fields fit 32 bits
 abbrev pub Fitting : Record → Type 0

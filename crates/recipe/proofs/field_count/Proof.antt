@@ -1,5 +1,4 @@
 -- `recipe::field_count` meets its contract. Assumes nothing.
-use borrow.Author.Needs.{needs}
 use Rattle.recipe.specs.Records.{last-kind}
 use Rattle.recipe.proofs.field_count.Statement.{statement}
 use Rattle.recipe.proofs.field_count.Tie as tie

@@ -1,20 +1,17 @@
 -- `pipeline::Pipeline::open` meets its contract. Assumes nothing.
 use borrow.Author.Needs.{needs}
-use mathlib.Core.Path.{_≡_, refl, sym, ap, _∙_}
-use mathlib.Core.Bool.{true, false}
-use mathlib.Core.List.{List, []}
-use Prim.Native.Nat.{ℕ, _+_, _-_, _^_, _≤_, _<_}
+use mathlib.Core.Path.{_≡_, sym, ap, _∙_}
+use mathlib.Core.Bool.{true}
+use Prim.Native.Nat.{_+_, _-_, _^_, _≤_, _<_}
 use native.Mathlib.Omega.{arith}
 use borrow.Author.Tests.{not-true, not-false}
 use lib.ListN.{length, drop, length-drop}
 use lib.Seq.{take-all}
-use Rattle.pcm.specs.declared.Verdict.{Verdict}
 use Rattle.pcm.specs.Formats.{formatAllowed}
 use Rattle.recipe.specs.Records.{readRecord, record-four}
-use Rattle.pipeline.specs.declared.Opened.{Opened}
 use Rattle.recipe.specs.declared.RecordAnswer.the-variants as read
 use Rattle.pipeline.specs.declared.opening.StageAnswer.the-variants as answer
-use Rattle.pipeline.specs.Opening.{chainOf, stageAnswer}
+use Rattle.pipeline.specs.Opening.{stageAnswer}
 use Rattle.pipeline.proofs.Opens.{Opens, opens-start, opens-end, opens-short, opens-size, opens-unfit, opens-room, opens-next, call-format, call-refused, call-opened, chain-is}
 use Rattle.pipeline.proofs.Pipeline.open.Statement.{statement}
 use Rattle.pipeline.proofs.Pipeline.open.Tie as tie

@@ -1,11 +1,11 @@
 -- `pipeline::Pipeline::output_format` meets its contract. Assumes nothing.
 use borrow.Author.Needs.{needs}
-use mathlib.Core.Path.{_≡_, refl, sym, ap, ap₂, _∙_}
-use Prim.Native.Nat.{ℕ, _+_, _-_, _*_, _≤_, _<_}
+use mathlib.Core.Path.{_≡_, refl, sym, _∙_}
+use Prim.Native.Nat.{_-_, _≤_}
 use native.Mathlib.Omega.{arith}
-use lib.ListN.{length, take, drop, length-append, length-drop}
+use lib.ListN.{length, take, drop}
 use borrow.Author.Tests.{le-leb, lt-leb}
-use lib.Seq.{length-take-le, drop-length}
+use lib.Seq.{length-take-le}
 use lib.ListN.{drop-of-length-le}
 use Rattle.pipeline.specs.Reset.{outputFormat, formatLeaving, leaving-next}
 use Rattle.pipeline.proofs.Places.{noStage, unmapped}

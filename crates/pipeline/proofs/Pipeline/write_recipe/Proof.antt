@@ -1,6 +1,6 @@
 -- `pipeline::Pipeline::write_recipe` meets its contract. Assumes nothing.
 use borrow.Author.Needs.{needs}
-use mathlib.Core.Path.{_≡_, refl, sym, ap, _∙_}
+use mathlib.Core.Path.{_≡_}
 use mathlib.Core.Bool.{true}
 use borrow.Author.Tests.{le-leb, lt-leb}
 use lib.Dec.{leb}

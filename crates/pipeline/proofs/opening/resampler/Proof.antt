@@ -1,11 +1,9 @@
 -- `pipeline::opening::resampler` meets its contract. Assumes nothing.
 use borrow.Author.Needs.{needs}
-use mathlib.Core.Path.{_≡_, sym, ap, _∙_}
+use mathlib.Core.Path.{_≡_}
 use Prim.Native.Nat.{ℕ}
 use native.Mathlib.Omega.{arith}
 use Rattle.resample.specs.Opening.{opened-made}
-use Rattle.pipeline.specs.declared.opening.StageAnswer.the-variants as answer
-use Rattle.stage.specs.declared.StageKind.the-variants as kind
 use Rattle.pipeline.proofs.opening.resampler.Statement.{statement}
 use Rattle.pipeline.proofs.opening.resampler.Tie as tie
 

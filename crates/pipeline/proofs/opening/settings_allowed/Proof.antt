@@ -1,6 +1,6 @@
 -- `pipeline::opening::settings_allowed` meets its contract. Assumes nothing.
 use borrow.Author.Needs.{needs}
-use mathlib.Core.Path.{_≡_, sym, _∙_}
+use mathlib.Core.Path.{_≡_}
 use mir.Syntax.{w32}
 use mir.Val.{toZ, ofZ}
 use Rattle.pipeline.proofs.opening.settings_allowed.Statement.{statement}

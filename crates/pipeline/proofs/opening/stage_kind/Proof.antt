@@ -1,9 +1,8 @@
 -- `pipeline::opening::stage_kind` meets its contract. Assumes nothing.
 use borrow.Author.Needs.{needs}
-use mathlib.Core.Path.{_≡_, sym, ap, _∙_}
+use mathlib.Core.Path.{_≡_}
 use mir.Syntax.{w32}
 use mir.Val.{toZ, ofZ}
-use Rattle.pipeline.specs.Opening.{settingsAllowed}
 use Rattle.pipeline.proofs.opening.stage_kind.Statement.{statement}
 use Rattle.pipeline.proofs.opening.stage_kind.Tie as tie
 

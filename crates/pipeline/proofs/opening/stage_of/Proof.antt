@@ -1,12 +1,12 @@
 -- `pipeline::opening::stage_of` meets its contract. Assumes nothing.
 use borrow.Author.Needs.{needs}
-use mathlib.Core.Path.{_≡_, sym, ap, _∙_}
-use mathlib.Core.Bool.{true, false}
-use Prim.Native.Nat.{ℕ, _-_, _<_}
+use mathlib.Core.Path.{_≡_, sym, _∙_}
+use mathlib.Core.Bool.{true}
+use Prim.Native.Nat.{_-_}
 use native.Mathlib.Omega.{arith}
 use borrow.Author.Tests.{lt-ltb, not-true, not-false}
 use lib.Dec.{ltb}
-use Rattle.pipeline.specs.Opening.{stageVerdict, settingsAllowed, suits, stageKindOf}
+use Rattle.pipeline.specs.Opening.{stageVerdict, settingsAllowed, suits}
 use Rattle.pipeline.proofs.opening.stage_of.Statement.{statement}
 use Rattle.pipeline.proofs.opening.stage_of.Tie as tie
 

@@ -1,11 +1,11 @@
 -- `pipeline::writing::recipe_size` meets its contract. Assumes nothing.
 use borrow.Author.Needs.{needs}
 use mathlib.Core.Path.{_≡_, refl, sym, ap, ap₂, _∙_}
-use Prim.Native.Nat.{ℕ, _+_, _-_, _*_, _≤_, _<_}
+use Prim.Native.Nat.{_+_, _-_, _*_, _≤_}
 use native.Mathlib.Omega.{arith}
-use lib.ListN.{length, take, drop, length-append, length-drop}
+use lib.ListN.{length, take, length-append}
 use Rattle.recipe.specs.Records.{recordBytes}
-use Rattle.pipeline.specs.WritingBack.{recipeOf, recordOfStage, recipe-next, record-small}
+use Rattle.pipeline.specs.WritingBack.{recipeOf, recipe-next, record-small}
 use Rattle.pipeline.proofs.Places.{noStage, unmapped}
 use Rattle.pipeline.proofs.writing.recipe_size.Statement.{statement}
 use Rattle.pipeline.proofs.writing.recipe_size.Tie as tie

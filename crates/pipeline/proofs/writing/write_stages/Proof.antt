@@ -4,12 +4,11 @@ use mathlib.Core.Path.{_≡_, refl, sym, ap, ap₂, _∙_}
 use Prim.Native.Nat.{ℕ, _+_, _-_, _^_, _≤_, _<_}
 use native.Mathlib.Omega.{arith}
 use mathlib.Core.List.{List, _++_}
-use lib.ListN.{length, take, drop, length-append, length-drop}
+use lib.ListN.{length, take, length-append, length-drop}
 use borrow.Rule.Slice.PartAt.{part-to-end}
 use Rattle.pcm.specs.Frames.{written, length-written}
-use Rattle.recipe.specs.declared.Record.{Record}
 use Rattle.recipe.specs.Records.{recordBytes}
-use Rattle.pipeline.specs.WritingBack.{recipeOf, recordOfStage, recipe-next, recipe-within, written-none}
+use Rattle.pipeline.specs.WritingBack.{recipeOf, recipe-next, recipe-within, written-none}
 use Rattle.pipeline.proofs.Places.{noStage, unmapped, written-part}
 use Rattle.pipeline.proofs.writing.write_stages.Statement.{statement}
 use Rattle.pipeline.proofs.writing.write_stages.Tie as tie

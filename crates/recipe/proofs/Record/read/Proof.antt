@@ -1,9 +1,9 @@
 -- `recipe::Record::read` meets its contract. Assumes nothing.
 use borrow.Author.Needs.{needs}
-use mathlib.Core.Path.{_≡_, sym, ap, ap₂, _∙_}
+use mathlib.Core.Path.{_≡_, sym, _∙_}
 use native.Mathlib.Omega.{arith}
-use Rattle.pcm.specs.declared.Verdict.the-variants.{Accepted, Refused}
-use Rattle.recipe.specs.Records.{readRecord, recordVerdict, recordAt, recordOf, fieldCount, kindAt, known, answered, Whole, whole-record}
+use Rattle.pcm.specs.declared.Verdict.the-variants.{Accepted}
+use Rattle.recipe.specs.Records.{readRecord, recordVerdict, Whole, whole-record}
 use Rattle.recipe.proofs.Record.read.Statement.{statement}
 use Rattle.recipe.proofs.Record.read.Tie as tie
 

@@ -1,12 +1,10 @@
 -- `recipe::Record::write` meets its contract. Assumes nothing.
 use borrow.Author.Needs.{needs}
-use mathlib.Core.Path.{_≡_, sym, ap, ap₂, _∙_}
-use Prim.Native.Nat.{ℕ, _+_, _-_, _*_, _≤_}
+use mathlib.Core.Path.{_≡_, ap, _∙_}
+use Prim.Native.Nat.{_+_, _-_, _*_, _≤_}
 use native.Mathlib.Omega.{arith}
 use lib.ListN.{length, length-set}
-use lib.Seq.{sets, length-sets}
-use Rattle.recipe.specs.Words.{wordBytes, wordsBytes}
-use Rattle.recipe.specs.Records.{recordBytes, fieldsOf, kindOf, record-size, few-record-fields, record-stored}
+use Rattle.recipe.specs.Records.{fieldsOf, record-size, few-record-fields, record-stored}
 use Rattle.recipe.proofs.Record.write.Statement.{statement}
 use Rattle.recipe.proofs.Record.write.Tie as tie
 

@@ -10,7 +10,7 @@ use mir.Syntax.{w32}
 use mir.Val.{toZ, ofZ}
 use Rattle.recipe.specs.declared.Record.{Record}
 use Rattle.recipe.specs.Words.{wordsBytes}
-use Rattle.recipe.specs.Records.{recordBytes, fieldsOf, record-size}
+use Rattle.recipe.specs.Records.{fieldsOf, record-size}
 use Rattle.recipe.proofs.Record.write_fields.Statement.{statement}
 use Rattle.recipe.proofs.Record.write_fields.Tie as tie
 

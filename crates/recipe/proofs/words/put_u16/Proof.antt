@@ -2,7 +2,7 @@
 use borrow.Author.Needs.{needs}
 use mathlib.Core.Path.{_≡_}
 use native.Mathlib.Numerals.{add-one}
-use Prim.Native.Nat.{ℕ, _/_, _%_}
+use Prim.Native.Nat.{_/_, _%_}
 use native.Mathlib.Omega.{arith}
 use Rattle.recipe.proofs.words.put_u16.Statement.{statement}
 use Rattle.recipe.proofs.words.put_u16.Tie as tie

@@ -1,8 +1,7 @@
 -- `recipe::words::put_u32` meets its contract. Assumes nothing.
 use borrow.Author.Needs.{needs}
 use mathlib.Core.Path.{_≡_, sym, ap, _∙_}
-use native.Mathlib.Numerals.{add-one}
-use Prim.Native.Nat.{ℕ, suc, _+_, _*_, _/_, _%_}
+use Prim.Native.Nat.{suc, _+_, _*_, _/_, _%_}
 use native.Mathlib.Omega.{arith}
 use mathlib.Core.List.{_++_}
 use lib.Seq.{sets}

@@ -1,13 +1,11 @@
 -- `recipe::words::signed` meets its contract. Assumes nothing.
 use borrow.Author.Needs.{needs}
-use mathlib.Core.Path.{_≡_, subst, sym}
-use Prim.Native.Nat.{ℕ, _<_, _-_}
-use native.Mathlib.Omega.{arith}
+use mathlib.Core.Path.{subst, sym}
 use mir.Syntax.{w32}
 use mir.Val.{SFits}
-use mir.Facts.{sfits-toZ, toZ-pos}
+use mir.Facts.{sfits-toZ}
 use Rattle.pcm.specs.Integers.{settled}
-use Rattle.recipe.proofs.Signs.{complement-is, high-half}
+use Rattle.recipe.proofs.Signs.{high-half}
 use Rattle.recipe.proofs.words.signed.Statement.{statement}
 use Rattle.recipe.proofs.words.signed.Tie as tie
 
