@@ -1,12 +1,142 @@
-// A chain of stages (pipeline.rs).
+// A chain of stages, carried by value (pipeline.rs): opened from a recipe and written back to it.
+ghost use mathlib.Core.Path.{_≡_};
+ghost use Rattle.pipeline.specs.Opening.{openCall};
+ghost use Rattle.pipeline.specs.WritingBack.{writeCall};
+ghost use Rattle.pipeline.specs.Reset.{outputFormat, resetCall};
+use opening::StageAnswer;
+use pcm::Error;
 use pcm::PcmFormat;
+use pcm::Verdict;
+use recipe::Record;
+use recipe::RecordAnswer;
 use stage::Stage;
+use stage::StageKind;
 
-// At most eight stages, by value.
+mod opening;
+mod writing;
+
+// The stages in use are the first `count`; `format` is what reaches the first.
 pub struct Pipeline {
     pub stages: [Stage; 8],
     pub count: usize,
     pub format: PcmFormat,
     pub blocks: u64,
     pub empty_blocks: u64,
+}
+
+// What opening came to, and the chain; a chain of no stages where it was refused.
+pub struct Opened {
+    pub verdict: Verdict,
+    pub chain: Pipeline,
+}
+
+// How many bytes a recipe took.
+pub enum WriteAnswer {
+    Written(usize),
+    Refused(Error),
+}
+
+impl Pipeline {
+    // The chain of a recipe, for sound of this format.
+    pub fn open(format: PcmFormat, recipe: &[u8]) -> Opened
+        ensures { λ r. ⌜ r ≡ openCall format (now (recipe .entry)) ⌝ }
+    {
+        if !format.allowed() {
+            return opening::unopened(format, Verdict::Refused(Error::InvalidFormat));
+        }
+        let mut stages = opening::no_stages();
+        let mut reaching = format;
+        let mut count: usize = 0;
+        let mut at: usize = 0;
+        while at < recipe.len() {
+            let answer = Record::read(&recipe[at..]);
+            let RecordAnswer::Record(record) = answer else {
+                return opening::unopened(format, answer.verdict());
+            };
+            let made = opening::stage_of(reaching, count, record);
+            let StageAnswer::Stage(kind) = made else {
+                return opening::unopened(format, made.verdict());
+            };
+            let next = Stage::new(kind);
+            stages[count] = next;
+            count += 1;
+            reaching = stage::format_after(reaching, kind);
+            at += record.size();
+        }
+        let chain = Pipeline {
+            stages,
+            count,
+            format,
+            blocks: 0,
+            empty_blocks: 0,
+        };
+        Opened {
+            verdict: Verdict::Accepted,
+            chain,
+        }
+    }
+
+    // The bytes that the chain was opened from, at the front of out.
+    pub fn write_recipe(self, out: &mut [u8]) -> WriteAnswer
+        ensures { λ r. ⌜ record { answer = r; out = now (out .exit) } ≡ writeCall self (now (out .entry)) ⌝ }
+    {
+        let count = self.count;
+        if count > 8 {
+            return WriteAnswer::Refused(Error::InvalidFormat);
+        }
+        let stages = self.stages;
+        let needed = writing::recipe_size(stages, count);
+        if out.len() < needed {
+            return WriteAnswer::Refused(Error::BufferTooSmall { needed });
+        }
+        writing::write_stages(stages, count, out);
+        WriteAnswer::Written(needed)
+    }
+
+    // The format that leaves the last stage.
+    pub fn output_format(self) -> PcmFormat
+        ensures { λ r. ⌜ r ≡ outputFormat self ⌝ }
+    {
+        let count = self.count;
+        let first = self.format;
+        if count > 8 {
+            return first;
+        }
+        let stages = self.stages;
+        let mut leaving = first;
+        let mut passed: usize = 0;
+        while passed < count {
+            let s = stages[passed];
+            let kind = s.kind;
+            leaving = stage::format_after(leaving, kind);
+            passed += 1;
+        }
+        leaving
+    }
+
+    // The sound memory of each stage cleared, the counters left alone.
+    pub fn reset(self) -> Pipeline
+        ensures { λ r. ⌜ r ≡ resetCall self ⌝ }
+    {
+        let count = self.count;
+        if count > 8 {
+            return self;
+        }
+        let mut stages = self.stages;
+        let mut cleared: usize = 0;
+        while cleared < count {
+            let s = stages[cleared];
+            let quiet = s.reset();
+            stages[cleared] = quiet;
+            cleared += 1;
+        }
+        let format = self.format;
+        Pipeline {
+            stages,
+            count,
+            format,
+            blocks: self.blocks,
+            empty_blocks: self.empty_blocks,
+        }
+    }
 }

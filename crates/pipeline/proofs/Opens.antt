@@ -1,0 +1,157 @@
+-- The invariant of opening: the stages so far, and what is left to open. Assumes nothing.
+use mathlib.Core.Path.{_≡_, refl, sym, ap, _∙_}
+use mathlib.Core.Bool.{Bool, true, false, _&&_}
+use mathlib.Core.List.{List, [], _∷_, _++_, append-assoc, append-nil}
+use Prim.Native.Nat.{ℕ, suc, _+_, _-_, _≤_, _<_}
+use native.Mathlib.Omega.{arith}
+use lib.ListN.{length, drop, set, replicate, length-append, length-drop, drop-of-length-le}
+use lib.Seq.{drop-drop, set-at}
+use Rattle.pcm.specs.declared.PcmFormat.{PcmFormat}
+use Rattle.pcm.specs.declared.Error.{Error}
+use Rattle.pcm.specs.declared.Error.the-variants.{InvalidFormat}
+use Rattle.pcm.specs.declared.Verdict.the-variants.{Accepted, Refused}
+use Rattle.pcm.specs.Formats.{rateAllowed, formatAllowed, channelsAllowed}
+use Rattle.stage.specs.declared.StageKind.{StageKind}
+use Rattle.stage.specs.declared.Stage.{Stage}
+use Rattle.stage.specs.Stages.{stageAsOpened, formatAfter}
+use Rattle.recipe.specs.declared.Record.{Record}
+use Rattle.recipe.specs.declared.RecordAnswer.the-variants as read
+use Rattle.recipe.specs.Records.{recordBytes, recordAt, recordVerdict, readRecord, whole-record}
+use Rattle.recipe.specs.RoundTrip.{size-within}
+use Rattle.pipeline.specs.declared.opening.StageAnswer.the-variants as answer
+use Rattle.pipeline.specs.Opening.{Stages, opened, refused, stageAnswer, stageVerdict, stageKindOf, front, afterNext, openStages, chainOf, openCall, unusedStage}
+use Rattle.pipeline.specs.OpeningLaws.{read-accepted, read-refused, stage-accepted, stage-refused, stage-fits, rate-after, open-none, open-short, open-unfit, open-next}
+
+-- stages before what is left to open
+abbrev pub joined : List Stage → Stages → Stages
+joined done (opened ss) = opened (done ++ ss)
+joined done (refused e) = refused e
+
+joined-none : (x : Stages) → x ≡ joined [] x
+joined-none (opened ss) = refl
+joined-none (refused e) = refl
+
+joined-front : (done : List Stage) (s : Stage) (x : Stages) → joined done (front s x) ≡ joined (done ++ (s ∷ [])) x
+joined-front done s (opened ss) = ap opened (sym (append-assoc done (s ∷ []) ss))
+joined-front done s (refused e) = refl
+
+-- `count` stages stand at the front of `stages`, the format `reaching` leaves the last, and the bytes from `at` on are left
+pub record Opens (f : PcmFormat) (bytes : List ℕ) (stages : List Stage) (reaching : PcmFormat) (count at : ℕ) : Type 0 where
+  pub done : List Stage
+  pub many : count ≡ length done
+  pub few : count ≤ 8
+  pub placed : stages ≡ done ++ replicate (8 - count) unusedStage
+  pub rate : rateAllowed (reaching .rate) ≡ true
+  pub within : at ≤ length bytes
+  pub is : openStages 8 f bytes ≡ joined done (openStages (8 - count) reaching (drop at bytes))
+
+both : (a b : Bool) → (a && b) ≡ true → b ≡ true
+both true b e = e
+both false b e = let z : _≡_ {A = ℕ} 0 1 = cc in absurd (let w : ⊥ = omega arith in w)
+
+pub opens-start : (f : PcmFormat) (bytes : List ℕ) → formatAllowed f ≡ true → Opens f bytes (replicate 8 unusedStage) f 0 0
+unfolding formatAllowed
+opens-start f bytes h = record {
+  done = [];
+  many = refl;
+  few = omega arith;
+  placed = refl;
+  rate = both (channelsAllowed (f .channels)) (rateAllowed (f .rate)) h;
+  within = omega arith;
+  is = joined-none (openStages 8 f bytes);
+}
+
+module _ {f : PcmFormat} {bytes : List ℕ} {stages : List Stage} {reaching : PcmFormat} {count at : ℕ} (o : Opens f bytes stages reaching count at) where
+  -- no bytes are left
+  pub opens-end : length bytes ≤ at → openStages 8 f bytes ≡ opened (o .done)
+  opens-end h =
+      o .is ∙ ap (λ (l : List ℕ). joined (o .done) (openStages (8 - count) reaching l)) (drop-of-length-le bytes h)
+      ∙ ap (joined (o .done)) (open-none (8 - count) reaching) ∙ ap opened (append-nil (o .done))
+
+  bytes-left : at < length bytes → 0 < length (drop at bytes)
+  bytes-left h = rw length-drop (omega arith)
+
+  module _ (h : at < length bytes) where
+    -- the next record's bytes are refused
+    pub opens-short : {x : Error} → readRecord (drop at bytes) ≡ read.Refused x → openStages 8 f bytes ≡ refused x
+    opens-short e = o .is ∙ ap (joined (o .done)) (open-short reaching (8 - count) (drop at bytes) (bytes-left h) (read-refused (drop at bytes) e))
+
+    module _ {r : Record} (e : readRecord (drop at bytes) ≡ read.Record r) where
+      found : recordAt (drop at bytes) ≡ r
+      found = read-accepted (drop at bytes) e .1
+
+      accepted : recordVerdict (drop at bytes) ≡ Accepted
+      accepted = read-accepted (drop at bytes) e .0
+
+      pub opens-size : at + length (recordBytes r) ≤ length bytes
+      opens-size =
+          let k = rw found at (size-within (drop at bytes) (whole-record (drop at bytes) accepted)) in
+          let l = length-drop at bytes in
+          omega arith
+
+      -- its stage is refused
+      pub opens-unfit : {x : Error} → stageAnswer (8 - count) reaching r ≡ answer.Refused x → openStages 8 f bytes ≡ refused x
+      opens-unfit q = o .is ∙ ap (joined (o .done)) (open-unfit reaching (8 - count) (drop at bytes) (bytes-left h) accepted (rw found (stage-refused (8 - count) reaching r q)))
+
+      -- its stage is taken
+      module _ {k : StageKind} (q : stageAnswer (8 - count) reaching r ≡ answer.Stage k) where
+        pub opens-room : count < 8
+        opens-room = let m = stage-fits (8 - count) reaching r (stage-accepted (8 - count) reaching r q .0) .0 in omega arith
+
+        kind-is : stageKindOf reaching (recordAt (drop at bytes)) ≡ k
+        kind-is = rw found (stage-accepted (8 - count) reaching r q .1)
+
+        fewer : 8 - count ≡ suc (7 - count)
+        fewer = let m = opens-room in omega arith
+
+        fewer-next : 8 - (count + 1) ≡ 7 - count
+        fewer-next = let m = opens-room in omega arith
+
+        placed-next : set stages count (stageAsOpened k) ≡ (o .done ++ (stageAsOpened k ∷ [])) ++ replicate (8 - (count + 1)) unusedStage
+        placed-next =
+            ap (λ (l : List Stage). set l count (stageAsOpened k)) (o .placed ∙ ap (λ (n : ℕ). o .done ++ replicate n unusedStage) fewer)
+            ∙ set-at (o .done) unusedStage (replicate (7 - count) unusedStage) (stageAsOpened k) count (sym (o .many))
+            ∙ sym (append-assoc (o .done) (stageAsOpened k ∷ []) (replicate (7 - count) unusedStage))
+            ∙ ap (λ (n : ℕ). (o .done ++ (stageAsOpened k ∷ [])) ++ replicate n unusedStage) (sym fewer-next)
+
+        is-next : openStages (8 - count) reaching (drop at bytes) ≡ front (stageAsOpened k) (openStages (8 - (count + 1)) (formatAfter reaching k) (drop (at + length (recordBytes r)) bytes))
+        is-next =
+            let v : stageVerdict (suc (7 - count)) reaching (recordAt (drop at bytes)) ≡ Accepted = rw (← fewer, found) (stage-accepted (8 - count) reaching r q .0) in
+            let d : afterNext (drop at bytes) ≡ drop (at + length (recordBytes r)) bytes = ap (λ (x : Record). drop (length (recordBytes x)) (drop at bytes)) found ∙ drop-drop (length (recordBytes r)) at bytes in
+            ap (λ (n : ℕ). openStages n reaching (drop at bytes)) fewer
+            ∙ open-next reaching (7 - count) (drop at bytes) (bytes-left h) accepted v
+            ∙ ap (λ (x : StageKind). front (stageAsOpened x) (openStages (7 - count) (formatAfter reaching x) (afterNext (drop at bytes)))) kind-is
+            ∙ ap (λ (l : List ℕ). front (stageAsOpened k) (openStages (7 - count) (formatAfter reaching k) l)) d
+            ∙ ap (λ (n : ℕ). front (stageAsOpened k) (openStages n (formatAfter reaching k) (drop (at + length (recordBytes r)) bytes))) (sym fewer-next)
+
+        pub opens-next : Opens f bytes (set stages count (stageAsOpened k)) (formatAfter reaching k) (count + 1) (at + length (recordBytes r))
+        opens-next = record {
+          done = o .done ++ (stageAsOpened k ∷ []);
+          many = let l = length-append (o .done) (stageAsOpened k ∷ []) in let m = o .many in omega arith;
+          few = let m = opens-room in omega arith;
+          placed = placed-next;
+          rate =
+              let a = stage-accepted (8 - count) reaching r q in
+              rw (a .1) at (rate-after reaching r (o .rate) (stage-fits (8 - count) reaching r (a .0) .1));
+          within = opens-size;
+          is = o .is ∙ ap (joined (o .done)) is-next ∙ joined-front (o .done) (stageAsOpened k) (openStages (8 - (count + 1)) (formatAfter reaching k) (drop (at + length (recordBytes r)) bytes));
+        }
+
+-- ---- the call's answer
+module _ (f : PcmFormat) (bytes : List ℕ) where
+  pub call-format : formatAllowed f ≡ false → openCall f bytes ≡ record { verdict = Refused InvalidFormat; chain = chainOf f [] }
+  unfolding openCall
+  call-format h = rw h
+
+  module _ (h : formatAllowed f ≡ true) where
+    pub call-refused : {x : Error} → openStages 8 f bytes ≡ refused x → openCall f bytes ≡ record { verdict = Refused x; chain = chainOf f [] }
+    unfolding openCall
+    call-refused e = rw (h, e)
+
+    pub call-opened : {ss : List Stage} → openStages 8 f bytes ≡ opened ss → openCall f bytes ≡ record { verdict = Accepted; chain = chainOf f ss }
+    unfolding openCall
+    call-opened e = rw (h, e)
+
+pub chain-is : (f : PcmFormat) (ss : List Stage) → chainOf f ss ≡ record { stages = ss ++ replicate (8 - length ss) unusedStage; count = length ss; format = f; blocks = 0; «empty_blocks» = 0 }
+unfolding chainOf
+chain-is f ss = refl

@@ -1,0 +1,6 @@
+pub mod Opening
+pub mod OpeningLaws
+pub mod WritingBack
+pub mod Reset
+pub mod RoundTrip
+pub mod Examples

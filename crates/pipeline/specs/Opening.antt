@@ -1,0 +1,133 @@
+-- Opening a chain: the questions in their order, from a format and bytes to a chain or a refusal (document 01, 'The recipe' and 'The questions'). Definitions only.
+use mathlib.Core.Bool.{Bool, true}
+use mathlib.Core.List.{List, [], _∷_, _++_}
+use Prim.Native.Nat.{ℕ, zero, suc, _-_}
+use lib.Dec.{leb, ltb, eqb}
+use lib.Ieee.{binary32, ofBits}
+use lib.IntN.{ℤ, natAbs}
+use lib.ListN.{length, drop, replicate}
+use Rattle.pcm.specs.declared.PcmFormat.{PcmFormat}
+use Rattle.pcm.specs.declared.Error.{Error}
+use Rattle.pcm.specs.declared.Error.the-variants.{InvalidFormat, Unsupported, TooManyStages, SettingOutOfRange}
+use Rattle.pcm.specs.declared.Verdict.{Verdict}
+use Rattle.pcm.specs.declared.Verdict.the-variants as verdict
+use Rattle.pcm.specs.Formats.{formatAllowed, rateAllowed}
+use Rattle.pcm.specs.Refusals.{ask}
+use Rattle.dc_block.specs.DcBlock.{poleOf}
+use Rattle.biquad.specs.Recurrence.{floats}
+use Rattle.resample.specs.Opening.{ratesAllowed, reduced}
+use Rattle.stage.specs.declared.StageKind.{StageKind}
+use Rattle.stage.specs.declared.StageKind.the-variants as kind
+use Rattle.stage.specs.declared.Stage.{Stage}
+use Rattle.stage.specs.Stages.{stageAsOpened, formatAfter}
+use Rattle.recipe.specs.declared.Record.{Record}
+use Rattle.recipe.specs.declared.Record.the-variants as rec
+use Rattle.recipe.specs.Records.{recordBytes, recordAt, recordVerdict}
+use Rattle.pipeline.specs.declared.Pipeline.{Pipeline}
+use Rattle.pipeline.specs.declared.Opened.{Opened}
+use Rattle.pipeline.specs.declared.opening.StageAnswer.{StageAnswer}
+use Rattle.pipeline.specs.declared.opening.StageAnswer.the-variants as answer
+
+-- ---- one record: are gain and rates within their limits?
+abbrev pub gainAllowed : ℤ → Bool
+gainAllowed q15 = leb (natAbs q15) 33554432
+
+abbrev pub settingsAllowed : Record → Bool
+settingsAllowed (rec.Gain q15) = gainAllowed q15
+settingsAllowed rec.MonoToStereo = true
+settingsAllowed rec.StereoToMono = true
+settingsAllowed (rec.Resample input output) = ratesAllowed input output
+settingsAllowed (rec.DcBlock corner) = true
+settingsAllowed (rec.Biquad rate bits) = rateAllowed rate
+
+-- does the channel count that reaches the stage suit it, and does the rate equal a resampler's input rate or a biquad's rate?
+abbrev pub suits : PcmFormat → Record → Bool
+suits f (rec.Gain q15) = true
+suits f rec.MonoToStereo = eqb (f .channels) 1
+suits f rec.StereoToMono = eqb (f .channels) 2
+suits f (rec.Resample input output) = eqb (f .rate) input
+suits f (rec.DcBlock corner) = true
+suits f (rec.Biquad rate bits) = eqb (f .rate) rate
+
+-- is it among the first eight, where so many more are allowed? else 8. Are gain and rates within their limits? else 9. Does the format suit it? else 2.
+unfoldable pub stageVerdict : ℕ → PcmFormat → Record → Verdict
+stageVerdict more f r =
+    ask (ltb 0 more) TooManyStages
+    (ask (settingsAllowed r) SettingOutOfRange
+    (ask (suits f r) Unsupported
+    verdict.Accepted))
+
+-- the stage of a record. The DC pole is worked out at the rate that reaches it
+abbrev pub stageKindOf : PcmFormat → Record → StageKind
+stageKindOf f (rec.Gain q15) = kind.Gain (record { q15 = q15 })
+stageKindOf f rec.MonoToStereo = kind.MonoToStereo
+stageKindOf f rec.StereoToMono = kind.StereoToMono
+stageKindOf f (rec.Resample input output) = kind.Resample (reduced input output)
+stageKindOf f (rec.DcBlock corner) = kind.DcBlock (record { corner = corner; r = poleOf (ofBits binary32 corner) (f .rate) })
+stageKindOf f (rec.Biquad rate bits) = kind.Biquad (record { rate = rate; coefficients = floats bits; bits = bits })
+
+abbrev pub answerOf : Verdict → StageKind → StageAnswer
+answerOf verdict.Accepted k = answer.Stage k
+answerOf (verdict.Refused e) k = answer.Refused e
+
+abbrev pub stageAnswer : ℕ → PcmFormat → Record → StageAnswer
+stageAnswer more f r = answerOf (stageVerdict more f r) (stageKindOf f r)
+
+abbrev pub verdictOf : StageAnswer → Verdict
+verdictOf (answer.Stage k) = verdict.Accepted
+verdictOf (answer.Refused e) = verdict.Refused e
+
+-- ---- all records
+pub data Stages : Type 0 where
+  opened : List Stage → Stages
+  refused : Error → Stages
+
+-- a question answered no ends the opening with its refusal
+abbrev pub asked : Verdict → Stages → Stages
+asked verdict.Accepted more = more
+asked (verdict.Refused e) more = refused e
+
+abbrev pub front : Stage → Stages → Stages
+front s (opened ss) = opened (s ∷ ss)
+front s (refused e) = refused e
+
+-- where no bytes are left there are no more stages
+abbrev pub whileLeft : List ℕ → Stages → Stages
+whileLeft [] more = opened []
+whileLeft (b ∷ left) more = more
+
+-- the stage of the next record, and the bytes after it
+abbrev pub nextKind : PcmFormat → List ℕ → StageKind
+nextKind f left = stageKindOf f (recordAt left)
+
+abbrev pub afterNext : List ℕ → List ℕ
+afterNext left = drop (length (recordBytes (recordAt left))) left
+
+-- the stages of the bytes that are left, where the format f reaches the first and so many more are allowed
+unfoldable pub openStages : ℕ → PcmFormat → List ℕ → Stages
+openStages zero f left =
+    whileLeft left
+    (asked (recordVerdict left)
+    (asked (stageVerdict zero f (recordAt left))
+    (opened [])))
+openStages (suc more) f left =
+    whileLeft left
+    (asked (recordVerdict left)
+    (asked (stageVerdict (suc more) f (recordAt left))
+    (front (stageAsOpened (nextKind f left)) (openStages more (formatAfter f (nextKind f left)) (afterNext left)))))
+
+-- ---- the chain
+-- what stands in a place that is not in use
+abbrev pub unusedStage : Stage
+unusedStage = stageAsOpened kind.MonoToStereo
+
+unfoldable pub chainOf : PcmFormat → List Stage → Pipeline
+chainOf f ss = record { stages = ss ++ replicate (8 - length ss) unusedStage; count = length ss; format = f; blocks = 0; «empty_blocks» = 0 }
+
+abbrev pub openedOf : PcmFormat → Stages → Opened
+openedOf f (opened ss) = record { verdict = verdict.Accepted; chain = chainOf f ss }
+openedOf f (refused e) = record { verdict = verdict.Refused e; chain = chainOf f [] }
+
+-- is the rate 1 to 384,000 and the channel count 1 or 2? else 1. Then the records, at most eight
+unfoldable pub openCall : PcmFormat → List ℕ → Opened
+openCall f bytes = openedOf f (asked (ask (formatAllowed f) InvalidFormat verdict.Accepted) (openStages 8 f bytes))

@@ -1,0 +1,190 @@
+-- A recipe that opens is written back unchanged, and what a chain writes opens as the same chain (document 01, 'The recipe'). Assumes nothing.
+use mathlib.Core.Path.{_≡_, refl, sym, ap, ap₂, _∙_}
+use mathlib.Core.Bool.{Bool, true, false}
+use mathlib.Core.List.{List, [], _∷_, _++_, map}
+use Prim.Native.Nat.{ℕ, zero, suc, _-_, _≤_, _<_}
+use mathlib.Core.Logic.{_⊎_, inl, inr, ⊎-elim}
+use native.Mathlib.Omega.{arith}
+use borrow.Author.Tests.{le-leb}
+use lib.ListN.{length, take, drop, replicate, take-append-drop}
+use lib.Seq.{take-at}
+use Rattle.pcm.specs.declared.PcmFormat.{PcmFormat}
+use Rattle.pcm.specs.declared.Verdict.{Verdict}
+use Rattle.pcm.specs.declared.Verdict.the-variants.{Accepted, Refused}
+use Rattle.pcm.specs.Formats.{formatAllowed}
+use Rattle.pcm.specs.Samples.{Bytes}
+use Rattle.pcm.specs.Frames.{written, all-drop}
+use Rattle.resample.specs.Opening.{reduced}
+use Rattle.stage.specs.declared.StageKind.{StageKind}
+use Rattle.stage.specs.declared.Stage.{Stage}
+use Rattle.stage.specs.Stages.{stageAsOpened, stageClear, formatAfter}
+use Rattle.recipe.specs.declared.Record.{Record}
+use Rattle.recipe.specs.declared.Record.the-variants as rec
+use Rattle.recipe.specs.Records.{recordBytes, recordAt, recordVerdict, whole-record}
+use Rattle.recipe.specs.RoundTrip.{written-read}
+use Rattle.pipeline.specs.declared.Pipeline.{Pipeline}
+use Rattle.pipeline.specs.declared.Opened.{Opened}
+use Rattle.pipeline.specs.declared.WriteAnswer.the-variants as answer
+use Rattle.pipeline.specs.Opening.{Stages, opened, refused, stageVerdict, stageKindOf, front, nextKind, afterNext, openStages, unusedStage, chainOf, openCall}
+use Rattle.pipeline.specs.OpeningLaws.{open-none, open-short, open-unfit, open-next, stage-fits}
+use Rattle.pipeline.specs.Reset.{resetCall, reset-stages}
+use Rattle.pipeline.specs.WritingBack.{recordOfStage, recipeOf, stagesOf, writeVerdict, writeCall}
+
+no-way : {X : Type 0} → _≡_ {A = ℕ} 0 1 → X
+no-way e = absurd (let z : ⊥ = omega arith in z)
+
+-- a stage keeps its record, whatever its bits
+pub record-kept : (f : PcmFormat) (r : Record) → recordOfStage (stageKindOf f r) ≡ r
+unfolding reduced
+record-kept f (rec.Gain q15) = refl
+record-kept f rec.MonoToStereo = refl
+record-kept f rec.StereoToMono = refl
+record-kept f (rec.Resample input output) = refl
+record-kept f (rec.DcBlock corner) = refl
+record-kept f (rec.Biquad rate bits) = refl
+
+-- ---- the first record of bytes that open
+pub record First (more : ℕ) (f : PcmFormat) (left : List ℕ) (ss : List Stage) : Type 0 where
+  pub rest : List Stage
+  pub fewer : ℕ
+  pub more-is : more ≡ suc fewer
+  pub read : recordVerdict left ≡ Accepted
+  pub stages-are : ss ≡ stageAsOpened (nextKind f left) ∷ rest
+  pub then : openStages fewer (formatAfter f (nextKind f left)) (afterNext left) ≡ opened rest
+
+-- the first stage, and the others
+split-front : (s : Stage) (x : Stages) (ss : List Stage) → front s x ≡ opened ss → (rest : List Stage) × (ss ≡ s ∷ rest) × (x ≡ opened rest)
+split-front s (opened rest) ss e = (rest, cc, refl)
+split-front s (refused x) ss e = no-way (cc)
+
+first-record : (more : ℕ) (f : PcmFormat) (left : List ℕ) (ss : List Stage) → 0 < length left → openStages more f left ≡ opened ss → First more f left ss
+first-record more f left ss h e = by-record (recordVerdict left) refl
+  where
+    taken : (n : ℕ) → more ≡ n → recordVerdict left ≡ Accepted → stageVerdict more f (recordAt left) ≡ Accepted → First more f left ss
+    taken zero q a b = let z = stage-fits more f (recordAt left) b .0 in absurd (let w : ⊥ = omega arith in w)
+    taken (suc n) q a b =
+        let o = open-next f n left h a (rw q at b) in
+        let p = split-front (stageAsOpened (nextKind f left)) (openStages n (formatAfter f (nextKind f left)) (afterNext left)) ss (sym o ∙ ap (λ (m : ℕ). openStages m f left) (sym q) ∙ e) in
+        record { rest = p .0; fewer = n; more-is = q; read = a; stages-are = p .1; then = p .2 }
+
+    by-stage : (v : Verdict) → recordVerdict left ≡ Accepted → stageVerdict more f (recordAt left) ≡ v → First more f left ss
+    by-stage Accepted a b = taken more refl a b
+    by-stage (Refused x) a b = let o = open-unfit f more left h a b in no-way (cc)
+
+    by-record : (v : Verdict) → recordVerdict left ≡ v → First more f left ss
+    by-record Accepted a = by-stage (stageVerdict more f (recordAt left)) a refl
+    by-record (Refused x) a = let o = open-short f more left h a in no-way (cc)
+
+-- ---- stages that were opened: none, or a first and others
+by-first : (more : ℕ) (f : PcmFormat) (left : List ℕ) (ss : List Stage) → openStages more f left ≡ opened ss → ((left ≡ []) × (ss ≡ [])) ⊎ First more f left ss
+by-first more f [] ss e = let o = open-none more f in inl (refl, cc)
+by-first more f (b ∷ left) ss e = inr (first-record more f (b ∷ left) ss (omega arith) e)
+
+pub opened-few : (more : ℕ) (f : PcmFormat) (left : List ℕ) (ss : List Stage) → openStages more f left ≡ opened ss → length ss ≤ more
+opened-few zero f left ss e = ⊎-elim (λ n. rw (n .1) (omega arith)) (λ p. let m = p .more-is in absurd (let w : ⊥ = omega arith in w)) (by-first zero f left ss e)
+opened-few (suc more) f left ss e =
+    ⊎-elim
+    (λ n. rw (n .1) (omega arith))
+    (λ p.
+    let m : p .fewer ≡ more = (let q = p .more-is in omega arith) in
+    let i = opened-few more (formatAfter f (nextKind f left)) (afterNext left) (p .rest) (rw m at (p .then)) in
+    rw (p .stages-are) (omega arith))
+    (by-first (suc more) f left ss e)
+
+pub opened-recipe : (more : ℕ) (f : PcmFormat) (left : List ℕ) (ss : List Stage) → Bytes left → openStages more f left ≡ opened ss → recipeOf ss ≡ left
+unfolding recipeOf
+opened-recipe zero f left ss b e = ⊎-elim (λ n. rw (n .0, n .1)) (λ p. let m = p .more-is in absurd (let w : ⊥ = omega arith in w)) (by-first zero f left ss e)
+opened-recipe (suc more) f left ss b e =
+    ⊎-elim
+    (λ n. rw (n .0, n .1))
+    (λ p.
+    let m : p .fewer ≡ more = (let q = p .more-is in omega arith) in
+    let n : ℕ = length (recordBytes (recordAt left)) in
+    let i : recipeOf (p .rest) ≡ drop n left = opened-recipe more (formatAfter f (nextKind f left)) (drop n left) (p .rest) (all-drop _ n left b) (rw m at (p .then)) in
+    ap recipeOf (p .stages-are)
+    ∙ ap₂ (λ (u v : List ℕ). u ++ v) (ap recordBytes (record-kept f (recordAt left)) ∙ written-read left (whole-record left (p .read)) b) i
+    ∙ take-append-drop n left)
+    (by-first (suc more) f left ss e)
+
+-- a recipe goes by the kinds of the stages alone
+pub recipe-of-kinds : (a b : List Stage) → map (λ (s : Stage). s .kind) a ≡ map (λ (s : Stage). s .kind) b → recipeOf a ≡ recipeOf b
+unfolding recipeOf
+recipe-of-kinds [] [] e = refl
+recipe-of-kinds [] (t ∷ b) e = no-way (cc)
+recipe-of-kinds (s ∷ a) [] e = no-way (cc)
+recipe-of-kinds (s ∷ a) (t ∷ b) e =
+    let k : s .kind ≡ t .kind = cc in
+    let m : map (λ (s : Stage). s .kind) a ≡ map (λ (s : Stage). s .kind) b = cc in
+    ap₂ (λ (x : StageKind) (l : List ℕ). recordBytes (recordOfStage x) ++ l) k (recipe-of-kinds a b m)
+
+-- ---- the calls
+-- the stages in use of a chain that was opened
+pub opened-stages : (f : PcmFormat) (ss : List Stage) → stagesOf (chainOf f ss) ≡ ss
+unfolding chainOf
+opened-stages f ss = take-at ss (replicate (8 - length ss) unusedStage) (length ss) refl
+
+-- a chain, and the stages that it was opened with
+pub record OpenedFrom (f : PcmFormat) (bytes : List ℕ) (c : Pipeline) : Type 0 where
+  pub allowed : formatAllowed f ≡ true
+  pub stages : List Stage
+  pub opens : openStages 8 f bytes ≡ opened stages
+  pub chain-is : c ≡ chainOf f stages
+
+opened-from : (f : PcmFormat) (bytes : List ℕ) (c : Pipeline) → openCall f bytes ≡ record { verdict = Accepted; chain = c } → OpenedFrom f bytes c
+unfolding openCall
+opened-from f bytes c e = by-format (formatAllowed f) refl (openStages 8 f bytes) refl
+  where
+    by-format : (b : Bool) → formatAllowed f ≡ b → (x : Stages) → openStages 8 f bytes ≡ x → OpenedFrom f bytes c
+    by-format false h x q = let v = ap (λ (o : Opened). o .verdict) (rw h at e) in no-way (cc)
+    by-format true h (refused y) q = let v = ap (λ (o : Opened). o .verdict) (rw (h, q) at e) in no-way (cc)
+    by-format true h (opened ss) q = record { allowed = h; stages = ss; opens = q; chain-is = sym (ap (λ (o : Opened). o .chain) (rw (h, q) at e)) }
+
+count-is : (f : PcmFormat) (ss : List Stage) → chainOf f ss .count ≡ length ss
+unfolding chainOf
+count-is f ss = refl
+
+format-is : (f : PcmFormat) (ss : List Stage) → chainOf f ss .format ≡ f
+unfolding chainOf
+format-is f ss = refl
+
+module _ (f : PcmFormat) (bytes : List ℕ) (c : Pipeline) (e : openCall f bytes ≡ record { verdict = Accepted; chain = c }) where
+  -- a chain has at most eight stages
+  pub opened-count : c .count ≤ 8
+  opened-count = let o = opened-from f bytes c e in rw (o .chain-is, count-is f (o .stages)) (opened-few 8 f bytes (o .stages) (o .opens))
+
+  pub opened-format : c .format ≡ f
+  opened-format = let o = opened-from f bytes c e in rw (o .chain-is) (format-is f (o .stages))
+
+  module _ (b : Bytes bytes) where
+    recipe-kept : recipeOf (stagesOf c) ≡ bytes
+    recipe-kept =
+        let o = opened-from f bytes c e in
+        ap (λ (d : Pipeline). recipeOf (stagesOf d)) (o .chain-is) ∙ ap recipeOf (opened-stages f (o .stages)) ∙ opened-recipe 8 f bytes (o .stages) b (o .opens)
+
+    -- every recipe that opens is written back unchanged, whatever its bits
+    pub opened-writes : (out : List ℕ) → length bytes ≤ length out → writeCall c out ≡ record { answer = answer.Written (length bytes); out = written bytes out }
+    unfolding writeCall writeVerdict
+    opened-writes out h = rw (le-leb (c .count) 8 opened-count, recipe-kept, le-leb (length bytes) (length out) h)
+
+    -- what a chain writes opens as the same chain as opened, whatever sound the stages have taken since
+    pub written-opens : (d : Pipeline) → d .format ≡ c .format → map (λ (s : Stage). s .kind) (stagesOf d) ≡ map (λ (s : Stage). s .kind) (stagesOf c)
+        → openCall (d .format) (recipeOf (stagesOf d)) ≡ record { verdict = Accepted; chain = c }
+    written-opens d g k = ap₂ openCall (g ∙ opened-format) (recipe-of-kinds (stagesOf d) (stagesOf c) k ∙ recipe-kept) ∙ e
+
+    -- a chain of no stages is the empty recipe
+    pub none-is-empty : c .count ≡ 0 → bytes ≡ []
+    unfolding recipeOf
+    none-is-empty z = sym recipe-kept ∙ ap (λ (n : ℕ). recipeOf (take n (c .stages))) z
+
+-- the empty recipe is a chain of no stages
+pub empty-is-none : (f : PcmFormat) → formatAllowed f ≡ true → openCall f [] ≡ record { verdict = Accepted; chain = chainOf f [] }
+unfolding openCall
+empty-is-none f h = rw (h, open-none 8 f)
+
+-- reset leaves the recipe
+cleared-kinds : (ss : List Stage) → map (λ (s : Stage). s .kind) (map stageClear ss) ≡ map (λ (s : Stage). s .kind) ss
+cleared-kinds [] = refl
+cleared-kinds (s ∷ ss) = ap (λ (l : List StageKind). s .kind ∷ l) (cleared-kinds ss)
+
+pub reset-recipe : (c : Pipeline) → c .count ≤ 8 → recipeOf (stagesOf (resetCall c)) ≡ recipeOf (stagesOf c)
+reset-recipe c h = ap recipeOf (reset-stages c h) ∙ recipe-of-kinds (map stageClear (stagesOf c)) (stagesOf c) (cleared-kinds (stagesOf c))

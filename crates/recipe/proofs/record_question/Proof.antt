@@ -1,0 +1,102 @@
+-- `recipe::record_question` meets its contract. Assumes nothing.
+use borrow.Author.Needs.{needs}
+use mathlib.Core.Path.{_≡_, sym, ap, _∙_}
+use mathlib.Core.Bool.{true, false}
+use Prim.Native.Nat.{ℕ, _+_, _*_}
+use native.Mathlib.Omega.{arith}
+use borrow.Author.Tests.{le-leb, lt-leb, eq-eqb, ne-eqb, not-true, not-false}
+use lib.Dec.{leb, eqb}
+use mathlib.Core.List.{List}
+use lib.ListN.{length}
+use Rattle.recipe.specs.Records.{recordVerdict, known, fieldCount, lengthAt, kindAt, few-fields}
+use Rattle.recipe.proofs.record_question.Statement.{statement}
+use Rattle.recipe.proofs.record_question.Tie as tie
+
+abbrev leftOf : tie.Start → List ℕ
+leftOf c = c .args .left .now
+
+-- the answers to the questions so far, where the next is asked
+four : (c : tie.Else1) → leb 4 (length (leftOf (c .before .before))) ≡ true
+four c = le-leb 4 (length (leftOf (c .before .before))) (c .if1 .left)
+
+two : (c : tie.Else2) → leb 2 (lengthAt (leftOf (c .before .before .before .before))) ≡ true
+two c = rw (c .before .get-u16 .ensures) at (le-leb 2 (c .before .get-u16 .result) (c .if2 .left))
+
+kind-is : (c : tie.After-known) → c .before .get-u162 .result ≡ kindAt (leftOf (c .before .before .before .before .before .before))
+kind-is c = c .before .get-u162 .ensures
+
+is-known : (c : tie.Else3) → known (c .before .before .get-u162 .result) ≡ true
+is-known c = sym (c .before .known .ensures) ∙ not-false _ (c .if3 .left)
+
+told : (c : tie.Else3) → known (kindAt (leftOf (c .before .before .before .before .before .before .before))) ≡ true
+told c = rw (kind-is (c .before)) at (is-known c)
+
+-- the length that the kind has
+due : (c : tie.After-field-count) → 2 + 4 * c .field-count .result ≡ 2 + 4 * fieldCount (kindAt (leftOf (c .before .before .before .before .before .before .before .before)))
+due c = ap (λ (n : ℕ). 2 + 4 * n) (c .field-count .ensures ∙ ap fieldCount (kind-is (c .before .before)))
+
+length-due : (c : tie.Else4) → eqb (lengthAt (leftOf (c .before .before .before .before .before .before .before .before .before))) (2 + 4 * fieldCount (kindAt (leftOf (c .before .before .before .before .before .before .before .before .before)))) ≡ true
+length-due c = eq-eqb _ _ (sym (c .before .before .before .before .before .before .get-u16 .ensures) ∙ c .if4 .left ∙ due (c .before))
+
+returns : tie.Need-returns
+unfolding recordVerdict
+returns c = rw (lt-leb 4 (length (leftOf (c .before .before))) (c .if1 .taken))
+
+returns-2 : tie.Need-returns-2
+unfolding recordVerdict
+returns-2 c = rw (four (c .before .before), rw (c .before .get-u16 .ensures) at (lt-leb 2 (c .before .get-u16 .result) (c .if2 .taken)))
+
+returns-3 : tie.Need-returns-3
+unfolding recordVerdict
+returns-3 c =
+    let k : known (kindAt (leftOf (c .before .before .before .before .before .before .before))) ≡ false = sym (ap known (kind-is (c .before))) ∙ sym (c .before .known .ensures) ∙ not-true _ (c .if3 .taken) in
+    rw (four (c .before .before .before .before .before), two (c .before .before .before), k)
+
+returns-4 : tie.Need-returns-4
+unfolding recordVerdict
+returns-4 c =
+    let e = c .before in
+    let n : eqb (lengthAt (leftOf (e .before .before .before .before .before .before .before .before))) (2 + 4 * fieldCount (kindAt (leftOf (e .before .before .before .before .before .before .before .before)))) ≡ false =
+    ne-eqb _ _ (λ q. c .if4 .taken (e .before .before .before .before .before .get-u16 .ensures ∙ q ∙ sym (due e))) in
+    rw (four (e .before .before .before .before .before .before), two (e .before .before .before .before), told (e .before), n)
+
+returns-5 : tie.Need-returns-5
+unfolding recordVerdict
+returns-5 c =
+    let e = c .before .before in
+    rw (
+      four (e .before .before .before .before .before .before),
+      two (e .before .before .before .before),
+      told (e .before),
+      length-due (c .before),
+      rw (e .before .before .before .before .before .get-u16 .ensures) at (lt-leb _ _ (c .if5 .taken)),
+    )
+
+returns-6 : tie.Need-returns-6
+unfolding recordVerdict
+returns-6 c =
+    let e = c .before .before in
+    rw (
+      four (e .before .before .before .before .before .before),
+      two (e .before .before .before .before),
+      told (e .before),
+      length-due (c .before),
+      rw (e .before .before .before .before .before .get-u16 .ensures) at (le-leb _ _ (c .if5 .left)),
+    )
+
+pub record-question-spec : {M : Type 1} → statement M
+record-question-spec = tie.close (tie.spec
+    returns
+    (λ c κs. search needs)
+    (λ c. search needs)
+    returns-2
+    (λ c κs. search needs)
+    (λ c κs. search needs)
+    returns-3
+    (λ c κs. is-known c)
+    (λ c. omega (arith, due c, few-fields (kindAt (leftOf (c .before .before .before .before .before .before .before .before)))))
+    (λ c. omega (arith, due c, few-fields (kindAt (leftOf (c .before .before .before .before .before .before .before .before)))))
+    returns-4
+    (λ c. search needs)
+    returns-5
+    returns-6)
