@@ -154,13 +154,13 @@ fn placed_question(chain: Pipeline, format: PcmFormat, size: usize, shorter: usi
     if !same_format(own, format) {
         return Verdict::Refused(Error::Unsupported);
     }
-    if chain.count == 0 {
-        if shorter < size {
-            return Verdict::Refused(Error::BufferTooSmall { needed: 2 * size });
-        }
-        return Verdict::Accepted;
+    if chain.count != 0 {
+        return room_question(chain, size / own.frame_bytes(), shorter);
     }
-    room_question(chain, size / own.frame_bytes(), shorter)
+    if shorter < size {
+        return Verdict::Refused(Error::BufferTooSmall { needed: 2 * size });
+    }
+    Verdict::Accepted
 }
 
 // Stage i + 1 reads the block or what the stage before wrote, and writes to half a where i is even, else to b.
@@ -200,18 +200,18 @@ fn pass_stages(chain: Pipeline, block: &[u8], a: &mut [u8], b: &mut [u8]) -> Pas
     let count = chain.count;
     let mut stages = chain.stages;
     let mut format = chain.format;
-    let mut n = block.len();
+    let mut bytes = block.len();
     let mut i: usize = 0;
     while i < count {
         let s = stages[i];
-        let t = turn(format, s, i, n, block, a, b);
+        let t = turn(format, s, i, bytes, block, a, b);
         let next = t.stage;
         stages[i] = next;
-        n = t.len;
+        bytes = t.len;
         let kind = s.kind;
         format = stage::format_after(format, kind);
         i += 1;
-        if n == 0 {
+        if bytes == 0 {
             return Passed {
                 stages,
                 format,
@@ -222,7 +222,7 @@ fn pass_stages(chain: Pipeline, block: &[u8], a: &mut [u8], b: &mut [u8]) -> Pas
     Passed {
         stages,
         format,
-        len: n,
+        len: bytes,
     }
 }
 
@@ -230,7 +230,10 @@ fn pass_stages(chain: Pipeline, block: &[u8], a: &mut [u8], b: &mut [u8]) -> Pas
 fn count_up(n: u64) -> u64
     ensures { λ r. ⌜ r ≡ counted n ⌝ }
 {
-    if n < 18446744073709551615 { n + 1 } else { n }
+    if n == 18446744073709551615 {
+        return n;
+    }
+    n + 1
 }
 
 // The half that the last of `count` stages writes to.

@@ -52,25 +52,25 @@ pass-stages-spec =
       (λ z. omega (arith, v .6 .within z, in-a (s .args .a .now) (s .args .b .now) (l .loop .a) (v .4))),
       (
         (λ z. omega (arith, v .6 .within z, in-b (s .args .a .now) (s .args .b .now) (l .loop .b) (v .5))),
-        served (s .args .chain .stages) (s .args .chain .count) (s .args .chain .format) (s .args .block .now) (record { a = s .args .a .now; b = s .args .b .now }) (shorter (s .args .a .now) (s .args .b .now)) (l .loop .stages) (l .loop .format) (l .loop .n) (l .loop .i) (record { a = l .loop .a; b = l .loop .b }) noStage (v .6) (c .before .before .before .loop-test .taken) (v .2) (v .3) (v .1) (in-a (s .args .a .now) (s .args .b .now) (l .loop .a) (v .4)) (in-b (s .args .a .now) (s .args .b .now) (l .loop .b) (v .5)),
+        served (s .args .chain .stages) (s .args .chain .count) (s .args .chain .format) (s .args .block .now) (record { a = s .args .a .now; b = s .args .b .now }) (shorter (s .args .a .now) (s .args .b .now)) (l .loop .stages) (l .loop .format) (l .loop .bytes) (l .loop .i) (record { a = l .loop .a; b = l .loop .b }) noStage (v .6) (c .before .before .before .loop-test .taken) (v .2) (v .3) (v .1) (in-a (s .args .a .now) (s .args .b .now) (l .loop .a) (v .4)) (in-b (s .args .a .now) (s .args .b .now) (l .loop .b) (v .5)),
       ),
     ))
     (λ c. search needs)
     (λ c. search needs)
     (λ c κs. search needs)
     (λ c. search needs)
-    (λ c. let l = c .before .before .before .before .before .before .before .before .before .before .before .before in let s = l .before .before .before .before .before .before in let v = l .loop .inv in sized-out (s .args .chain .stages) (s .args .chain .count) (s .args .chain .format) (s .args .block .now) (record { a = s .args .a .now; b = s .args .b .now }) (shorter (s .args .a .now) (s .args .b .now)) (l .loop .stages) (l .loop .format) (l .loop .n) (l .loop .i) (record { a = l .loop .a; b = l .loop .b }) noStage (v .6) (c .before .before .before .before .before .before .before .before .before .before .before .loop-test .taken) (v .2) (v .3) (v .1) (in-a (s .args .a .now) (s .args .b .now) (l .loop .a) (v .4)) (in-b (s .args .a .now) (s .args .b .now) (l .loop .b) (v .5)) _ _ _ _ (c .before .before .before .before .before .before .before .turn .ensures) (c .before .format-after .ensures) .a ∙ v .4)
-    (λ c. let l = c .before .before .before .before .before .before .before .before .before .before .before .before in let s = l .before .before .before .before .before .before in let v = l .loop .inv in sized-out (s .args .chain .stages) (s .args .chain .count) (s .args .chain .format) (s .args .block .now) (record { a = s .args .a .now; b = s .args .b .now }) (shorter (s .args .a .now) (s .args .b .now)) (l .loop .stages) (l .loop .format) (l .loop .n) (l .loop .i) (record { a = l .loop .a; b = l .loop .b }) noStage (v .6) (c .before .before .before .before .before .before .before .before .before .before .before .loop-test .taken) (v .2) (v .3) (v .1) (in-a (s .args .a .now) (s .args .b .now) (l .loop .a) (v .4)) (in-b (s .args .a .now) (s .args .b .now) (l .loop .b) (v .5)) _ _ _ _ (c .before .before .before .before .before .before .before .turn .ensures) (c .before .format-after .ensures) .b ∙ v .5)
+    (λ c. let l = c .before .before .before .before .before .before .before .before .before .before .before .before in let s = l .before .before .before .before .before .before in let v = l .loop .inv in sized-out (s .args .chain .stages) (s .args .chain .count) (s .args .chain .format) (s .args .block .now) (record { a = s .args .a .now; b = s .args .b .now }) (shorter (s .args .a .now) (s .args .b .now)) (l .loop .stages) (l .loop .format) (l .loop .bytes) (l .loop .i) (record { a = l .loop .a; b = l .loop .b }) noStage (v .6) (c .before .before .before .before .before .before .before .before .before .before .before .loop-test .taken) (v .2) (v .3) (v .1) (in-a (s .args .a .now) (s .args .b .now) (l .loop .a) (v .4)) (in-b (s .args .a .now) (s .args .b .now) (l .loop .b) (v .5)) _ _ _ _ (c .before .before .before .before .before .before .before .turn .ensures) (c .before .format-after .ensures) .a ∙ v .4)
+    (λ c. let l = c .before .before .before .before .before .before .before .before .before .before .before .before in let s = l .before .before .before .before .before .before in let v = l .loop .inv in sized-out (s .args .chain .stages) (s .args .chain .count) (s .args .chain .format) (s .args .block .now) (record { a = s .args .a .now; b = s .args .b .now }) (shorter (s .args .a .now) (s .args .b .now)) (l .loop .stages) (l .loop .format) (l .loop .bytes) (l .loop .i) (record { a = l .loop .a; b = l .loop .b }) noStage (v .6) (c .before .before .before .before .before .before .before .before .before .before .before .loop-test .taken) (v .2) (v .3) (v .1) (in-a (s .args .a .now) (s .args .b .now) (l .loop .a) (v .4)) (in-b (s .args .a .now) (s .args .b .now) (l .loop .b) (v .5)) _ _ _ _ (c .before .before .before .before .before .before .before .turn .ensures) (c .before .format-after .ensures) .b ∙ v .5)
     (λ c. let l = c .before .before .before .before .before .before .before .before .before .before .before .before in let s = l .before .before .before .before .before .before in let v = l .loop .inv in record {
-      keeps = stopped-keeps (s .args .chain .stages) (s .args .chain .count) (s .args .chain .format) (s .args .block .now) (record { a = s .args .a .now; b = s .args .b .now }) (shorter (s .args .a .now) (s .args .b .now)) (l .loop .stages) (l .loop .format) (l .loop .n) (l .loop .i) (record { a = l .loop .a; b = l .loop .b }) noStage (v .6) (c .before .before .before .before .before .before .before .before .before .before .before .loop-test .taken) (v .2) (v .3) (v .1) (in-a (s .args .a .now) (s .args .b .now) (l .loop .a) (v .4)) (in-b (s .args .a .now) (s .args .b .now) (l .loop .b) (v .5)) _ _ _ _ (c .before .before .before .before .before .before .before .turn .ensures) (c .before .format-after .ensures) (c .if1 .taken);
-      size = sym (c .if1 .taken) ∙ stopped-size (s .args .chain .stages) (s .args .chain .count) (s .args .chain .format) (s .args .block .now) (record { a = s .args .a .now; b = s .args .b .now }) (shorter (s .args .a .now) (s .args .b .now)) (l .loop .stages) (l .loop .format) (l .loop .n) (l .loop .i) (record { a = l .loop .a; b = l .loop .b }) noStage (v .6) (c .before .before .before .before .before .before .before .before .before .before .before .loop-test .taken) (v .2) (v .3) (v .1) (in-a (s .args .a .now) (s .args .b .now) (l .loop .a) (v .4)) (in-b (s .args .a .now) (s .args .b .now) (l .loop .b) (v .5)) _ _ _ _ (c .before .before .before .before .before .before .before .turn .ensures) (c .before .format-after .ensures) (c .if1 .taken);
+      keeps = stopped-keeps (s .args .chain .stages) (s .args .chain .count) (s .args .chain .format) (s .args .block .now) (record { a = s .args .a .now; b = s .args .b .now }) (shorter (s .args .a .now) (s .args .b .now)) (l .loop .stages) (l .loop .format) (l .loop .bytes) (l .loop .i) (record { a = l .loop .a; b = l .loop .b }) noStage (v .6) (c .before .before .before .before .before .before .before .before .before .before .before .loop-test .taken) (v .2) (v .3) (v .1) (in-a (s .args .a .now) (s .args .b .now) (l .loop .a) (v .4)) (in-b (s .args .a .now) (s .args .b .now) (l .loop .b) (v .5)) _ _ _ _ (c .before .before .before .before .before .before .before .turn .ensures) (c .before .format-after .ensures) (c .if1 .taken);
+      size = sym (c .if1 .taken) ∙ stopped-size (s .args .chain .stages) (s .args .chain .count) (s .args .chain .format) (s .args .block .now) (record { a = s .args .a .now; b = s .args .b .now }) (shorter (s .args .a .now) (s .args .b .now)) (l .loop .stages) (l .loop .format) (l .loop .bytes) (l .loop .i) (record { a = l .loop .a; b = l .loop .b }) noStage (v .6) (c .before .before .before .before .before .before .before .before .before .before .before .loop-test .taken) (v .2) (v .3) (v .1) (in-a (s .args .a .now) (s .args .b .now) (l .loop .a) (v .4)) (in-b (s .args .a .now) (s .args .b .now) (l .loop .b) (v .5)) _ _ _ _ (c .before .before .before .before .before .before .before .turn .ensures) (c .before .format-after .ensures) (c .if1 .taken);
       form = λ q. absurd (q refl);
-      halves = stopped-halves (s .args .chain .stages) (s .args .chain .count) (s .args .chain .format) (s .args .block .now) (record { a = s .args .a .now; b = s .args .b .now }) (shorter (s .args .a .now) (s .args .b .now)) (l .loop .stages) (l .loop .format) (l .loop .n) (l .loop .i) (record { a = l .loop .a; b = l .loop .b }) noStage (v .6) (c .before .before .before .before .before .before .before .before .before .before .before .loop-test .taken) (v .2) (v .3) (v .1) (in-a (s .args .a .now) (s .args .b .now) (l .loop .a) (v .4)) (in-b (s .args .a .now) (s .args .b .now) (l .loop .b) (v .5)) _ _ _ _ (c .before .before .before .before .before .before .before .turn .ensures) (c .before .format-after .ensures) (c .if1 .taken);
+      halves = stopped-halves (s .args .chain .stages) (s .args .chain .count) (s .args .chain .format) (s .args .block .now) (record { a = s .args .a .now; b = s .args .b .now }) (shorter (s .args .a .now) (s .args .b .now)) (l .loop .stages) (l .loop .format) (l .loop .bytes) (l .loop .i) (record { a = l .loop .a; b = l .loop .b }) noStage (v .6) (c .before .before .before .before .before .before .before .before .before .before .before .loop-test .taken) (v .2) (v .3) (v .1) (in-a (s .args .a .now) (s .args .b .now) (l .loop .a) (v .4)) (in-b (s .args .a .now) (s .args .b .now) (l .loop .b) (v .5)) _ _ _ _ (c .before .before .before .before .before .before .before .turn .ensures) (c .before .format-after .ensures) (c .if1 .taken);
     })
     (λ c. search needs)
     (λ c. let l = c .before .before .before .before .before .before .before .before .before .before .before .before in let s = l .before .before .before .before .before .before in let v = l .loop .inv in
-    let z = sized-out (s .args .chain .stages) (s .args .chain .count) (s .args .chain .format) (s .args .block .now) (record { a = s .args .a .now; b = s .args .b .now }) (shorter (s .args .a .now) (s .args .b .now)) (l .loop .stages) (l .loop .format) (l .loop .n) (l .loop .i) (record { a = l .loop .a; b = l .loop .b }) noStage (v .6) (c .before .before .before .before .before .before .before .before .before .before .before .loop-test .taken) (v .2) (v .3) (v .1) (in-a (s .args .a .now) (s .args .b .now) (l .loop .a) (v .4)) (in-b (s .args .a .now) (s .args .b .now) (l .loop .b) (v .5)) _ _ _ _ (c .before .before .before .before .before .before .before .turn .ensures) (c .before .format-after .ensures) in
-    (omega (arith, c .before .before .before .before .before .before .before .before .before .before .before .loop-test .taken), v .1, length-set (l .loop .stages) (l .loop .i) (c .before .before .before .before .before .before .before .turn .result .stage) ∙ v .2, v .3, z .a ∙ v .4, z .b ∙ v .5, next-reached (s .args .chain .stages) (s .args .chain .count) (s .args .chain .format) (s .args .block .now) (record { a = s .args .a .now; b = s .args .b .now }) (shorter (s .args .a .now) (s .args .b .now)) (l .loop .stages) (l .loop .format) (l .loop .n) (l .loop .i) (record { a = l .loop .a; b = l .loop .b }) noStage (v .6) (c .before .before .before .before .before .before .before .before .before .before .before .loop-test .taken) (v .2) (v .3) (v .1) (in-a (s .args .a .now) (s .args .b .now) (l .loop .a) (v .4)) (in-b (s .args .a .now) (s .args .b .now) (l .loop .b) (v .5)) _ _ _ _ (c .before .before .before .before .before .before .before .turn .ensures) (c .before .format-after .ensures) (c .if1 .left)))
+    let z = sized-out (s .args .chain .stages) (s .args .chain .count) (s .args .chain .format) (s .args .block .now) (record { a = s .args .a .now; b = s .args .b .now }) (shorter (s .args .a .now) (s .args .b .now)) (l .loop .stages) (l .loop .format) (l .loop .bytes) (l .loop .i) (record { a = l .loop .a; b = l .loop .b }) noStage (v .6) (c .before .before .before .before .before .before .before .before .before .before .before .loop-test .taken) (v .2) (v .3) (v .1) (in-a (s .args .a .now) (s .args .b .now) (l .loop .a) (v .4)) (in-b (s .args .a .now) (s .args .b .now) (l .loop .b) (v .5)) _ _ _ _ (c .before .before .before .before .before .before .before .turn .ensures) (c .before .format-after .ensures) in
+    (omega (arith, c .before .before .before .before .before .before .before .before .before .before .before .loop-test .taken), v .1, length-set (l .loop .stages) (l .loop .i) (c .before .before .before .before .before .before .before .turn .result .stage) ∙ v .2, v .3, z .a ∙ v .4, z .b ∙ v .5, next-reached (s .args .chain .stages) (s .args .chain .count) (s .args .chain .format) (s .args .block .now) (record { a = s .args .a .now; b = s .args .b .now }) (shorter (s .args .a .now) (s .args .b .now)) (l .loop .stages) (l .loop .format) (l .loop .bytes) (l .loop .i) (record { a = l .loop .a; b = l .loop .b }) noStage (v .6) (c .before .before .before .before .before .before .before .before .before .before .before .loop-test .taken) (v .2) (v .3) (v .1) (in-a (s .args .a .now) (s .args .b .now) (l .loop .a) (v .4)) (in-b (s .args .a .now) (s .args .b .now) (l .loop .b) (v .5)) _ _ _ _ (c .before .before .before .before .before .before .before .turn .ensures) (c .before .format-after .ensures) (c .if1 .left)))
     (λ c. c .before .loop .inv .4)
     (λ c. c .before .loop .inv .5)
     (λ c.

@@ -49,17 +49,6 @@ placed-question-spec =
     (λ c.
     let s = c .before .before .before in
     other (s .args .chain) (s .args .format) (s .args .size) (s .args .shorter) (s .pre) (sym (c .before .same-format .ensures) ∙ not-true _ (c .if1 .taken)))
-    (λ c.
-    let s = c .before .before .before .before .before .before in
-    record { fits = omega (arith, small (s .args .chain) (s .args .size) (sized (s .args .chain) (s .args .size) Accepted (s .pre))) })
-    (λ c.
-    let s = c .before .before .before .before .before .before in
-    placed (s .args .chain) (s .args .format) (s .args .size) (s .args .shorter) (s .pre) (same-here (c .before .before .before)) _
-    (copy-short (s .args .chain) (s .args .format) (s .args .size) (s .args .shorter) (s .pre) (c .before .if2 .taken) (c .if3 .taken)))
-    (λ c.
-    let s = c .before .before .before .before .before .before in
-    placed (s .args .chain) (s .args .format) (s .args .size) (s .args .shorter) (s .pre) (same-here (c .before .before .before)) _
-    (copy-holds (s .args .chain) (s .args .format) (s .args .size) (s .args .shorter) (s .pre) (c .before .if2 .taken) (c .if3 .left)))
     (λ c κs. search needs)
     (λ c.
     let s = c .before .before .before .before .before .before in
@@ -72,4 +61,15 @@ placed-question-spec =
     let s = c .before .before .before .before .before .before .before in
     let n : length (s .args .chain .stages) ≡ 8 = search (unmapped, needs) in
     placed (s .args .chain) (s .args .format) (s .args .size) (s .args .shorter) (s .pre) (same-here (c .before .before .before .before)) _
-    (some (s .args .chain) (s .args .format) (s .args .size) (s .args .shorter) (s .pre) (c .before .before .if2 .left) n _ (c .before .frame-bytes .ensures) _ (c .room-question .ensures))))
+    (some (s .args .chain) (s .args .format) (s .args .size) (s .args .shorter) (s .pre) (c .before .before .if2 .taken) n _ (c .before .frame-bytes .ensures) _ (c .room-question .ensures)))
+    (λ c.
+    let s = c .before .before .before .before .before .before in
+    record { fits = omega (arith, small (s .args .chain) (s .args .size) (sized (s .args .chain) (s .args .size) Accepted (s .pre))) })
+    (λ c.
+    let s = c .before .before .before .before .before .before in
+    placed (s .args .chain) (s .args .format) (s .args .size) (s .args .shorter) (s .pre) (same-here (c .before .before .before)) _
+    (copy-short (s .args .chain) (s .args .format) (s .args .size) (s .args .shorter) (s .pre) (c .before .if2 .left) (c .if3 .taken)))
+    (λ c.
+    let s = c .before .before .before .before .before .before in
+    placed (s .args .chain) (s .args .format) (s .args .size) (s .args .shorter) (s .pre) (same-here (c .before .before .before)) _
+    (copy-holds (s .args .chain) (s .args .format) (s .args .size) (s .args .shorter) (s .pre) (c .before .if2 .left) (c .if3 .left))))
