@@ -3,4 +3,3 @@ pub mod OpeningLaws
 pub mod WritingBack
 pub mod Reset
 pub mod RoundTrip
-pub mod Examples

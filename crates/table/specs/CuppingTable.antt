@@ -17,6 +17,15 @@ use Rattle.resample.specs.Divisor.{gcd, largest}
 use Rattle.resample.specs.Value.{interpolated}
 use Rattle.resample.specs.Resample.{blend, outputAt, delivered, openedState, among, firstAt, outputs, output, resampled, wholeOutput}
 use Rattle.resample.specs.Opening.{reduced}
+use Rattle.pcm.specs.declared.PcmFormat.{PcmFormat}
+use Rattle.pcm.specs.declared.Error.the-variants.{UnknownStage}
+use Rattle.pcm.specs.declared.Verdict.the-variants.{Accepted}
+use Rattle.pcm.specs.Formats.{formatAllowed}
+use Rattle.pcm.specs.Refusals.{numberOf}
+use Rattle.stage.specs.declared.StageKind.the-variants as kind
+use Rattle.stage.specs.Stages.{stageAsOpened}
+use Rattle.recipe.specs.Records.{recordVerdict, recordOf, recordBytes}
+use Rattle.pipeline.specs.Opening.{opened, refused, stageVerdict, openStages, chainOf, openCall}
 
 -- frames of one channel
 abbrev mono : List ℕ → List Frame
@@ -76,3 +85,22 @@ i = refl
 j : map (roundSat 32768 32767) (fin false 1 (negsuc 0) ∷ fin true 1 (negsuc 0) ∷ fin false 5 (negsuc 0) ∷ fin false 65535 (negsuc 0) ∷ []) ≡ pos 1 ∷ negsuc 0 ∷ pos 3 ∷ pos 32767 ∷ []
 unfolding roundSat halfUp
 j = refl
+
+gain-stages : (f : PcmFormat) → openStages 8 f (0x06 ∷ 0x00 ∷ 0x01 ∷ 0x00 ∷ 0x00 ∷ 0x40 ∷ 0x00 ∷ 0x00 ∷ []) ≡ opened (stageAsOpened (kind.Gain (record { q15 = pos 16384 })) ∷ [])
+unfolding openStages recordVerdict stageVerdict recordOf recordBytes
+gain-stages f = refl
+
+unknown-stage : (f : PcmFormat) → openStages 8 f (0x02 ∷ 0x00 ∷ 0xff ∷ 0x00 ∷ []) ≡ refused UnknownStage
+unfolding openStages recordVerdict
+unknown-stage f = refl
+
+-- (k) 06 00 01 00 00 40 00 00 is gain 16,384
+k : (f : PcmFormat) → formatAllowed f ≡ true
+    → openCall f (0x06 ∷ 0x00 ∷ 0x01 ∷ 0x00 ∷ 0x00 ∷ 0x40 ∷ 0x00 ∷ 0x00 ∷ []) ≡ record { verdict = Accepted; chain = chainOf f (stageAsOpened (kind.Gain (record { q15 = pos 16384 })) ∷ []) }
+unfolding openCall
+k f h = rw (h, gain-stages f)
+
+-- (l) 02 00 FF 00: 6
+l : (f : PcmFormat) → formatAllowed f ≡ true → numberOf (openCall f (0x02 ∷ 0x00 ∷ 0xff ∷ 0x00 ∷ []) .verdict) ≡ 6
+unfolding openCall
+l f h = rw (h, unknown-stage f)
