@@ -24,9 +24,8 @@ use Rattle.stage.specs.declared.SoundMemory.{SoundMemory}
 use Rattle.stage.specs.Stages.{formatAfter}
 use Rattle.stage.specs.Rooms.{suits, framesOut, framesWanted, roomWanted, both, Resamples, resamples, Bounded, suits-bounded, wanted-holds, channels-after}
 use Rattle.pipeline.specs.declared.Pipeline.{Pipeline}
-use Rattle.block.specs.declared.Scratch.the-variants as scratch
-use Rattle.block.specs.BlockCall.{suited, legal, stagesOf, sizeAsked, roomVerdict, halvesVerdict, larger, largest, scratchAnswer, scratchBytes}
-use Rattle.block.specs.Steps.{ask-yes, drop-zero}
+use Rattle.block.specs.BlockCall.{suited, legal, stagesOf, roomVerdict, larger, largest}
+use Rattle.block.specs.Steps.{drop-zero}
 
 -- ---- the stages one at a time
 module _ (f : PcmFormat) (s : Stage) (rest : List Stage) (h : suited f (s ∷ rest) ≡ true) where
@@ -140,7 +139,7 @@ pub wide : (w g : ℕ) → w ≤ 922000000000000000 → g ≤ 2 → w * (g * 2) 
 wide w g h k = mul-le-mul h (let l : g * 2 ≤ 4 = omega arith in l)
 
 -- ---- scratch_bytes suffices
-larger-left : (a b : ℕ) → a ≤ larger a b
+pub larger-left : (a b : ℕ) → a ≤ larger a b
 unfolding larger
 larger-left a b = go (leb a b) refl
   where
@@ -148,7 +147,7 @@ larger-left a b = go (leb a b) refl
     go true e = leb-true a b e
     go false e = le-refl a
 
-larger-right : (a b : ℕ) → b ≤ larger a b
+pub larger-right : (a b : ℕ) → b ≤ larger a b
 unfolding larger
 larger-right a b = go (leb a b) refl
   where
@@ -196,7 +195,7 @@ unfolding roomWanted
 wanted-room f k n m w = mul-le-mul-right (formatAfter f k .channels * 2) w
 
 -- in any state: halves of the largest room hold every stage's
-room-suffices : (f : PcmFormat) (l : List Stage) (n m short : ℕ) → suited f l ≡ true → n ≤ m → largest f l m ≤ short → roomVerdict f l n short ≡ Accepted
+pub room-suffices : (f : PcmFormat) (l : List Stage) (n m short : ℕ) → suited f l ≡ true → n ≤ m → largest f l m ≤ short → roomVerdict f l n short ≡ Accepted
 unfolding roomVerdict largest
 room-suffices f [] n m short u h k = refl
 room-suffices f (s ∷ l) n m short u h k =
@@ -213,22 +212,3 @@ room-suffices f (s ∷ l) n m short u h k =
         → cond t Accepted (ask (leb (roomWanted f (s .kind) n) short) (BufferTooSmall (2 * roomWanted f (s .kind) n)) (roomVerdict (formatAfter f (s .kind)) l (framesOut (s .kind) (s .memory) n) short)) ≡ Accepted
     go true r i = refl
     go false r i = rw (le-leb (roomWanted f (s .kind) n) short r) i
-
-figure-is : (v : Verdict) (own figure : ℕ) → scratchAnswer v own ≡ scratch.Bytes figure → (v ≡ Accepted) × (own ≡ figure)
-figure-is Accepted own figure e = (refl, cc)
-figure-is (Refused x) own figure e = (cc, cc)
-
--- no block of that many bytes is refused for room by halves of half that figure each
-pub scratch-suffices : (c : Pipeline) (size figure short : ℕ) → scratchBytes c size ≡ scratch.Bytes figure → figure ≤ 2 * short
-    → halvesVerdict (c .format) (stagesOf c) size short ≡ Accepted
-unfolding scratchBytes
-scratch-suffices c size figure short e k =
-    let p = figure-is (sizeAsked c size Accepted) _ figure e in
-    let ok = legal-parts c (ask-yes (legal c) _ _ (p .0) .0) in
-    let n : ℕ = size / (c .format .channels * 2) in
-    let big : larger size (largest (c .format) (stagesOf c) (size / (c .format .channels * 2))) ≤ short = omega (arith, p .1) in
-    go (stagesOf c) (ok .suit) (le-trans (larger-left size _) big) (le-trans (larger-right size _) big)
-  where
-    go : (l : List Stage) → suited (c .format) l ≡ true → size ≤ short → largest (c .format) l (size / (c .format .channels * 2)) ≤ short → halvesVerdict (c .format) l size short ≡ Accepted
-    go [] u a b = rw (le-leb size short a)
-    go (s ∷ l) u a b = room-suffices (c .format) (s ∷ l) (size / (c .format .channels * 2)) (size / (c .format .channels * 2)) short u (le-refl _) b

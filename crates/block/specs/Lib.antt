@@ -3,3 +3,4 @@ pub mod BlockCall
 pub mod Turns
 pub mod Steps
 pub mod Bounds
+pub mod Scratch
