@@ -1,6 +1,6 @@
-pub mod Reset
 pub mod Calls
 pub mod Opened
+pub mod Opening
 pub mod OneCall
 pub mod PlainChain
 pub mod PlainRoom
