@@ -117,7 +117,7 @@ module _ (o : Pipeline) (opened : Opened o) where
         go Accepted h = rw (← verdict-plain v format bytes a b, h) (after-accepted (accepts (r .chain) format bytes a b h))
 
   -- ---- after any calls
-  after-call : (X : List Frame) (r : Run) (call : Call) → Between X r → Lent call → Between (afterFeeding o X call) (afterCall r call)
+  pub after-call : (X : List Frame) (r : Run) (call : Call) → Between X r → Lent call → Between (afterFeeding o X call) (afterCall r call)
   after-call X r (block format t bytes a b) v lent = after-block X r v format t bytes a b lent
   after-call X r reset v lent = after-reset X r v
 

@@ -8,4 +8,5 @@ pub mod Stream
 pub mod Resamplers
 pub mod AfterCalls
 pub mod WholeStream
+pub mod Counters
 pub mod Examples

@@ -24,8 +24,9 @@ use Rattle.stream.specs.Stream.{streamOf}
 use Rattle.stream.specs.Resamplers.{Resampled, received-frames, resampler-in-chain}
 use Rattle.stream.specs.AfterCalls.{Between, as-opened, suit, state-plain, output-plain, verdict-plain, begun, after-calls}
 
--- o is the chain that opening returned, with stages of the kinds `kindsOf o`; X is the stream, the frames of accepted blocks since opening or the last
--- reset; r holds the chain as the calls left it and their output joined. Document 01's sentences, by part:
+-- o is the chain that opening returned, with stages of the kinds `kindsOf o`.
+-- X is the stream, the frames of accepted blocks since opening or the last reset; r holds the chain as the calls left it and their
+-- output joined. Document 01's sentences, by part:
 --   output      'The last stage's frames, as bytes, are the joined output, or the stream itself where there are no stages.'
 --   state       'Gain and the channel stages keep nothing. DC and biquad start each channel with x1, x2, y1, y2 at +0 ..' and
 --               a resampler's 'sound state is its newest frame and a phase': each stage's after all that it has received
