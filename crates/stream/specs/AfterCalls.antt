@@ -18,13 +18,14 @@ use Rattle.stage.specs.Rooms.{both}
 use Rattle.pipeline.specs.declared.Pipeline.{Pipeline}
 use Rattle.block.specs.Chain.{chainOut, chainNext, chain-out-nil, chain-next-nil, chain-out-append, chain-next-append, chain-clear-next}
 use Rattle.block.specs.BlockCall.{stagesOf, suited, legal, verdictOf, shorter, accepted, concluded, blockCall}
+use Rattle.block.specs.Bounds.{legal-parts}
 use Rattle.block.specs.Turns.{Accepts}
 use Rattle.stream.specs.Calls.{Call, block, reset, Lent, Run, joinedBy, afterCall, afterCalls}
 use Rattle.stream.specs.Opened.{kindsOf, Opened}
 use Rattle.stream.specs.PlainChain.{plainOut, plainState, chain-is-plain, state-is-plain, clear-is-opened}
 use Rattle.stream.specs.PlainRoom.{plainVerdict, verdict-is-plain}
 use Rattle.stream.specs.Stream.{addedBy, afterFeeding, streamFrom}
-use Rattle.stream.specs.OneCall.{Moved, legal-parts, accepts, accepted-moves, accepted-output, reset-moves}
+use Rattle.stream.specs.OneCall.{Moved, accepts, accepted-moves, accepted-output, reset-moves}
 
 module _ (o : Pipeline) (opened : Opened o) where
   -- the run between two calls
@@ -116,7 +117,7 @@ module _ (o : Pipeline) (opened : Opened o) where
         go Accepted h = rw (← verdict-plain v format bytes a b, h) (after-accepted (accepts (r .chain) format bytes a b h))
 
   -- ---- after any calls
-  after-call : (X : List Frame) (r : Run) (call : Call) → Between X r → Lent call → Between (afterFeeding o X call) (afterCall r call)
+  pub after-call : (X : List Frame) (r : Run) (call : Call) → Between X r → Lent call → Between (afterFeeding o X call) (afterCall r call)
   after-call X r (block format t bytes a b) v lent = after-block X r v format t bytes a b lent
   after-call X r reset v lent = after-reset X r v
 

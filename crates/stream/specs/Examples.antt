@@ -17,9 +17,9 @@ use Rattle.stage.specs.declared.StageKind.the-variants as kind
 use Rattle.stage.specs.Stages.{stageOut, stageNext, stageAsOpened}
 use Rattle.stage.specs.Rooms.{ratesSuit, suits, framesOut, framesWanted, roomWanted}
 use Rattle.pipeline.specs.declared.Pipeline.{Pipeline}
+use Rattle.pipeline.specs.Reset.{resetCall}
 use Rattle.block.specs.Chain.{formatOut}
 use Rattle.block.specs.BlockCall.{suited, legal, roomVerdict, verdictOf, passed, accepted, blockCall}
-use Rattle.stream.specs.Reset.{resetCall}
 use Rattle.stream.specs.Calls.{Call, block, reset, runOf}
 use Rattle.stream.specs.Opened.{Opened, chainAsOpened, opened-with}
 use Rattle.stream.specs.PlainChain.{plainStage}

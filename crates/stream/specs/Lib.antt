@@ -1,6 +1,6 @@
-pub mod Reset
 pub mod Calls
 pub mod Opened
+pub mod Opening
 pub mod OneCall
 pub mod PlainChain
 pub mod PlainRoom
@@ -8,4 +8,5 @@ pub mod Stream
 pub mod Resamplers
 pub mod AfterCalls
 pub mod WholeStream
+pub mod Counters
 pub mod Examples

@@ -1,56 +1,36 @@
 -- What one call does to a chain and its output, by the stages' laws. Assumes nothing.
 use mathlib.Core.Path.{_≡_, refl, sym, ap, ap₂, _∙_}
-use mathlib.Core.Bool.{Bool, true, false, cond, _&&_}
+use mathlib.Core.Bool.{Bool, true, false, cond}
 use mathlib.Core.List.{List, [], _∷_, _++_, map}
-use Prim.Native.Nat.{ℕ, suc, _+_, _*_, _/_, _%_, _≤_, _<_}
+use Prim.Native.Nat.{ℕ, suc, _+_, _*_, _/_, _%_, _≤_}
 use native.Mathlib.Nat.{suc-ne-zero, zero-add, add-zero}
 use native.Mathlib.Omega.{arith}
-use borrow.Author.Tests.{ne-eqb, le-ltb, leb-true, ltb-true, eqb-true}
+use borrow.Author.Tests.{ne-eqb, le-leb, leb-true, ltb-true, eqb-true}
 use lib.Dec.{eqb, leb, ltb}
 use lib.ListN.{length, take, drop, length-append, length-map, length-drop}
 use lib.Seq.{length-take-le, take-at, drop-at}
 use Rattle.pcm.specs.declared.PcmFormat.{PcmFormat}
-use Rattle.pcm.specs.declared.Error.{Error}
 use Rattle.pcm.specs.declared.Error.the-variants.{InvalidFormat, Unsupported, InvalidGeometry, TooManyFrames}
-use Rattle.pcm.specs.declared.Verdict.{Verdict}
 use Rattle.pcm.specs.declared.Verdict.the-variants.{Accepted}
-use Rattle.pcm.specs.Formats.{formatAllowed, channelsAllowed, rateAllowed}
-use Rattle.pcm.specs.Refusals.{ask}
 use Rattle.pcm.specs.Samples.{Bytes}
 use Rattle.pcm.specs.Frames.{Frame, framesOf, bytesOf, written, front-written, bytes-frames}
 use Rattle.stage.specs.declared.Stage.{Stage}
 use Rattle.stage.specs.Stages.{stageOut, stageClear}
 use Rattle.stage.specs.Rooms.{both}
 use Rattle.pipeline.specs.declared.Pipeline.{Pipeline}
+use Rattle.pipeline.specs.Reset.{resetCall}
 use Rattle.block.specs.declared.Half.{Half}
 use Rattle.block.specs.declared.Half.the-variants as half
 use Rattle.block.specs.declared.Answer.{Answer}
 use Rattle.block.specs.declared.Answer.the-variants as answer
 use Rattle.block.specs.Chain.{chainOut, chainNext, formatOut, length-chain-next}
-use Rattle.block.specs.BlockCall.{Halves, Result, put, passed, halvesAfter, lastHalf, answerOf, legal, suited, verdictOf, wholeFrames, sameFormat, stagesOf, shorter, accepted}
+use Rattle.block.specs.BlockCall.{Halves, Result, put, passed, halvesAfter, lastHalf, answerOf, legal, verdictOf, wholeFrames, sameFormat, stagesOf, shorter, accepted}
+use Rattle.block.specs.Steps.{ask-yes}
+use Rattle.block.specs.Bounds.{legal-parts}
 use Rattle.block.specs.Turns.{Accepts}
-use Rattle.stream.specs.Reset.{resetCall}
 use Rattle.stream.specs.Calls.{sideOf, outputBy, outputOf}
 
 -- ---- the questions
-pub record Legal (c : Pipeline) : Type 0 where
-  pub few : c .count ≤ 8
-  pub channels : (0 < c .format .channels) × (c .format .channels ≤ 2)
-  pub suit : suited (c .format) (stagesOf c) ≡ true
-
-pub legal-parts : (c : Pipeline) → legal c ≡ true → Legal c
-unfolding legal formatAllowed channelsAllowed
-legal-parts c h =
-    let p = both (leb (c .count) 8) _ h in
-    let q = both (channelsAllowed (c .format .channels) && rateAllowed (c .format .rate)) _ (p .1) in
-    let ch = both (channelsAllowed (c .format .channels)) _ (q .0) in
-    let n = both (ltb 0 (c .format .channels)) _ (ch .0) in
-    record { few = leb-true _ _ (p .0); channels = (ltb-true _ _ (n .0), leb-true _ _ (n .1)); suit = q .1 }
-
-pub ask-yes : (t : Bool) (e : Error) (v : Verdict) → ask t e v ≡ Accepted → (t ≡ true) × (v ≡ Accepted)
-ask-yes true e v h = (refl, h)
-ask-yes false e v h = (cc, cc)
-
 pub accepts : (c : Pipeline) (format : PcmFormat) (block a b : List ℕ) → verdictOf c format (length block) (shorter a b) ≡ Accepted → Accepts c block a b
 unfolding verdictOf
 accepts c format block a b h =
@@ -160,7 +140,7 @@ module _ (c : Pipeline) (eight : length (c .stages) ≡ 8) where
   unfolding resetCall
   reset-moves few =
       let n : length (map stageClear (stagesOf c)) ≡ length (stagesOf c) = length-map (stagesOf c) stageClear in
-      rw (le-ltb 8 (c .count) few) (record {
+      rw (le-leb (c .count) 8 few) (record {
         stages = kept-stages c few eight (map stageClear (stagesOf c)) n;
         count = refl;
         format = refl;

@@ -4,6 +4,7 @@ use mathlib.Core.List.{List, [], _∷_}
 use Prim.Native.Nat.{ℕ}
 use lib.ListN.{length, take, drop}
 use Rattle.pcm.specs.declared.PcmFormat.{PcmFormat}
+use Rattle.pcm.specs.declared.Verdict.the-variants.{Accepted}
 use Rattle.pcm.specs.Samples.{All}
 use Rattle.pcm.specs.Frames.{Frame, FramesOf, bytesOf}
 use Rattle.resample.specs.declared.LinearResampler.{LinearResampler}
@@ -11,18 +12,21 @@ use Rattle.stage.specs.declared.Stage.{Stage}
 use Rattle.stage.specs.declared.StageKind.{StageKind}
 use Rattle.stage.specs.declared.StageKind.the-variants as kind
 use Rattle.pipeline.specs.declared.Pipeline.{Pipeline}
+use Rattle.pipeline.specs.Opening.{openCall}
 use Rattle.block.specs.Chain.{formatOut}
 use Rattle.block.specs.BlockCall.{stagesOf, verdictOf, shorter}
 use Rattle.stream.specs.Calls.{Call, Lent, Run, runOf}
 use Rattle.stream.specs.Opened.{kindsOf, Opened}
+use Rattle.stream.specs.Opening.{opened-chain}
 use Rattle.stream.specs.PlainChain.{plainOut, plainState, receivedBy, deliveredBy}
 use Rattle.stream.specs.PlainRoom.{plainVerdict}
 use Rattle.stream.specs.Stream.{streamOf}
 use Rattle.stream.specs.Resamplers.{Resampled, received-frames, resampler-in-chain}
 use Rattle.stream.specs.AfterCalls.{Between, as-opened, suit, state-plain, output-plain, verdict-plain, begun, after-calls}
 
--- The chain o was opened with stages of the kinds `kindsOf o`; X is the stream, the frames of accepted blocks since opening or the last
--- reset; r holds the chain as the calls left it and their output joined. Document 01's sentences, by part:
+-- o is the chain that opening returned, with stages of the kinds `kindsOf o`.
+-- X is the stream, the frames of accepted blocks since opening or the last reset; r holds the chain as the calls left it and their
+-- output joined. Document 01's sentences, by part:
 --   output      'The last stage's frames, as bytes, are the joined output, or the stream itself where there are no stages.'
 --   state       'Gain and the channel stages keep nothing. DC and biquad start each channel with x1, x2, y1, y2 at +0 ..' and
 --               a resampler's 'sound state is its newest frame and a phase': each stage's after all that it has received
@@ -44,9 +48,8 @@ pub record WholeStream (o : Pipeline) (X : List Frame) (r : Run) : Type 0 where
   pub questions : (format : PcmFormat) (bytes a b : List ℕ)
       → verdictOf (r .chain) format (length bytes) (shorter a b) ≡ plainVerdict (o .format) (kindsOf o) X format bytes (shorter a b)
 
--- whatever the block and reset calls, and whatever blocks and halves they bring
-pub whole-stream : (o : Pipeline) → Opened o → (calls : List Call) → All Lent calls → WholeStream o (streamOf o calls) (runOf o calls)
-whole-stream o opened calls lent =
+pub whole-stream-of : (o : Pipeline) → Opened o → (calls : List Call) → All Lent calls → WholeStream o (streamOf o calls) (runOf o calls)
+whole-stream-of o opened calls lent =
     let v : Between o opened (streamOf o calls) (runOf o calls) = after-calls o opened [] (record { chain = o; joined = [] }) calls (begun o opened) lent in
     record {
       output = output-plain o opened v;
@@ -59,3 +62,8 @@ whole-stream o opened calls lent =
       resamplers = resampler-in-chain (o .format) (kindsOf o) (streamOf o calls) (suit o opened) (opened .rates) (v .frames);
       questions = verdict-plain o opened v;
     }
+
+-- whatever the format and the recipe that opening accepts, the block and reset calls, and the blocks and halves that they bring
+pub whole-stream : (f : PcmFormat) (recipe : List ℕ) → openCall f recipe .verdict ≡ Accepted → (calls : List Call) → All Lent calls
+    → WholeStream (openCall f recipe .chain) (streamOf (openCall f recipe .chain) calls) (runOf (openCall f recipe .chain) calls)
+whole-stream f recipe h calls lent = whole-stream-of (openCall f recipe .chain) (opened-chain f recipe h) calls lent
