@@ -20,11 +20,12 @@ use Rattle.pipeline.specs.declared.Pipeline.{Pipeline}
 use Rattle.block.specs.declared.Half.{Half}
 use Rattle.block.specs.declared.Outcome.{Outcome}
 use Rattle.block.specs.declared.Answer.{Answer}
-use Rattle.block.specs.Chain.{chainOut, chainNext, formatOut}
+use Rattle.block.specs.Chain.{chainOut, chainNext, formatLeaving}
 use Rattle.block.specs.BlockCall.{Halves, Result, put, legal, sameFormat, sizeAsked, verdictOf, halvesVerdict, halvesAfter, passed, stagesOf, shorter, counted, countedChain, answerOf, lastHalf, accepted}
 use Rattle.block.specs.Steps.{ask-yes}
 use Rattle.block.specs.Turns.{Accepts, Passes, outcomeOf}
 use Rattle.block.proofs.Asking.{sized, asked-last, no-stages}
+use Rattle.block.proofs.Reaching.{format-none}
 
 -- ---- the questions
 -- all were answered yes
@@ -55,7 +56,7 @@ abbrev resulting : Outcome → Halves → Result
 resulting o h = record { chain = o .chain; answer = o .answer; a = h .a; b = h .b }
 
 accepted-is : (c : Pipeline) (t : ℕ) (block : List ℕ) (h : Halves)
-    → resulting (outcomeOf c (chainNext (stagesOf c) (framesOf (c .format .channels) block) ++ drop (c .count) (c .stages)) (formatOut (c .format) (stagesOf c)) t
+    → resulting (outcomeOf c (chainNext (stagesOf c) (framesOf (c .format .channels) block) ++ drop (c .count) (c .stages)) (formatLeaving (c .format) (stagesOf c)) t
     (length (bytesOf (chainOut (stagesOf c) (framesOf (c .format .channels) block)))))
     (halvesAfter (stagesOf c) (framesOf (c .format .channels) block) block h)
     ≡ accepted c t block h
@@ -71,8 +72,8 @@ pub some-played : (c : Pipeline) (s : List Stage) (f : PcmFormat) (t len : ℕ) 
 some-played c s f t len block before after o k p e =
     ap₂ resulting
     (e ∙ ap (λ (l : List Stage). outcomeOf c l f t len) (p .keeps)
-    ∙ outcome-format c (chainNext (stagesOf c) (framesOf (c .format .channels) block) ++ drop (c .count) (c .stages)) f (formatOut (c .format) (stagesOf c)) t len (p .form)
-    ∙ ap (outcomeOf c (chainNext (stagesOf c) (framesOf (c .format .channels) block) ++ drop (c .count) (c .stages)) (formatOut (c .format) (stagesOf c)) t) (p .size))
+    ∙ outcome-format c (chainNext (stagesOf c) (framesOf (c .format .channels) block) ++ drop (c .count) (c .stages)) f (formatLeaving (c .format) (stagesOf c)) t len (p .form)
+    ∙ ap (outcomeOf c (chainNext (stagesOf c) (framesOf (c .format .channels) block) ++ drop (c .count) (c .stages)) (formatLeaving (c .format) (stagesOf c)) t) (p .size))
     (p .halves ∙ halves-some (stagesOf c) (framesOf (c .format .channels) block) block before k)
     ∙ accepted-is c t block before
 
@@ -84,10 +85,6 @@ all-stages c e = rw e (zero-of (c .stages))
     zero-of [] = refl
     zero-of (x ∷ l) = refl
 
-format-none : (f : PcmFormat) → formatOut f [] ≡ f
-unfolding formatOut
-format-none f = refl
-
 pub none-played : (c : Pipeline) (t : ℕ) (block a b a′ : List ℕ) (o : Outcome) → c .count ≡ 0 → Accepts c block a b → Bytes block
     → a′ ≡ written block a → o ≡ outcomeOf c (c .stages) (c .format) t (length block) → resulting o (record { a = a′; b = b }) ≡ accepted c t block (record { a = a; b = b })
 none-played c t block a b a′ o z w bytes ha e =
@@ -95,7 +92,7 @@ none-played c t block a b a′ o z w bytes ha e =
     ap₂ resulting
     (e ∙ ap₂ (λ (l : List Stage) (k : ℕ). outcomeOf c l (c .format) t k) (all-stages c z) n
     ∙ sym (ap (λ (l : List Stage).
-    outcomeOf c (chainNext l (framesOf (c .format .channels) block) ++ drop (c .count) (c .stages)) (formatOut (c .format) l) t
+    outcomeOf c (chainNext l (framesOf (c .format .channels) block) ++ drop (c .count) (c .stages)) (formatLeaving (c .format) l) t
     (length (bytesOf (chainOut l (framesOf (c .format .channels) block))))) (no-stages c z)
     ∙ ap (λ (f : PcmFormat). outcomeOf c (drop (c .count) (c .stages)) f t (length (bytesOf (framesOf (c .format .channels) block)))) (format-none (c .format))))
     (ap (λ (l : List ℕ). record { a = l; b = b }) ha ∙ sym (ap (λ (l : List Stage). halvesAfter l (framesOf (c .format .channels) block) block (record { a = a; b = b })) (no-stages c z)))

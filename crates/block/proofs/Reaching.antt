@@ -20,7 +20,7 @@ use Rattle.stage.specs.declared.Stage.{Stage}
 use Rattle.stage.specs.Stages.{stageOut, stageNext, formatAfter, stage-out-nil}
 use Rattle.stage.specs.Rooms.{suits, framesOut, roomWanted, Served, stage-count, room-holds-bytes, channels-after}
 use Rattle.pipeline.specs.declared.Pipeline.{Pipeline}
-use Rattle.block.specs.Chain.{chainOut, chainNext, formatOut, chain-out-nil, chain-next-nil}
+use Rattle.block.specs.Chain.{chainOut, chainNext, formatLeaving, chain-out-nil, chain-next-nil}
 use Rattle.block.specs.BlockCall.{Halves, put, suited, roomVerdict, passed, stagesOf, shorter, legal, halvesVerdict}
 use Rattle.block.specs.Steps.{stage-at, stages-end, drop-zero, room-first, room-rest}
 use Rattle.block.specs.Bounds.{suited-first, suited-rest, Legal, legal-parts}
@@ -32,16 +32,16 @@ module _ (s : Stage) (rest : List Stage) where
   unfolding passed
   passed-cons i xs h = rw add-one
 
-  format-cons : (f : PcmFormat) → formatOut f (s ∷ rest) ≡ formatOut (formatAfter f (s .kind)) rest
-  unfolding formatOut
+  format-cons : (f : PcmFormat) → formatLeaving f (s ∷ rest) ≡ formatLeaving (formatAfter f (s .kind)) rest
+  unfolding formatLeaving
   format-cons f = refl
 
 passed-none : (i : ℕ) (xs : List Frame) (h : Halves) → passed i [] xs h ≡ h
 unfolding passed
 passed-none i xs h = refl
 
-format-none : (f : PcmFormat) → formatOut f [] ≡ f
-unfolding formatOut
+pub format-none : (f : PcmFormat) → formatLeaving f [] ≡ f
+unfolding formatLeaving
 format-none f = refl
 
 bytes-nil : bytesOf [] ≡ []
@@ -236,8 +236,8 @@ module _ (old : List Stage) (count : ℕ) (format : PcmFormat) (block : List ℕ
     tail-out : drop (i + 1) moved ≡ drop (i + 1) old
     tail-out = drop-set-lt (i + 1) stages i next (omega arith) ∙ sym (drop-drop 1 i stages) ∙ ap (drop 1) (r .tail) ∙ drop-drop 1 i old
 
-    form-out : formatOut format (take count old) ≡ formatOut g rest
-    form-out = r .form ∙ ap (formatOut f) ahead ∙ format-cons s rest f ∙ ap (λ (k : PcmFormat). formatOut k rest) (sym e)
+    form-out : formatLeaving format (take count old) ≡ formatLeaving g rest
+    form-out = r .form ∙ ap (formatLeaving f) ahead ∙ format-cons s rest f ∙ ap (λ (k : PcmFormat). formatLeaving k rest) (sym e)
 
     pub sized-out : Sized h h′
     sized-out = subst (Sized h) (sym halves-are) (go (eqb (i % 2) 0))
@@ -307,8 +307,8 @@ module _ (old : List Stage) (count : ℕ) (format : PcmFormat) (block : List ℕ
   pub ended-size : n ≡ length (bytesOf (chainOut (take count old) (framesOf (format .channels) block)))
   ended-size = r .size ∙ ap (λ (xs : List Frame). length (bytesOf xs)) (sym (r .makes ∙ ap (λ (l : List Stage). chainOut l (r .xs)) over))
 
-  pub ended-form : f ≡ formatOut format (take count old)
-  ended-form = sym (r .form ∙ ap (formatOut f) over ∙ format-none f)
+  pub ended-form : f ≡ formatLeaving format (take count old)
+  ended-form = sym (r .form ∙ ap (formatLeaving f) over ∙ format-none f)
 
   pub ended-halves : h ≡ passed 0 (take count old) (framesOf (format .channels) block) before
   ended-halves = sym (r .sides ∙ ap (λ (l : List Stage). passed i l (r .xs) h) over ∙ passed-none i (r .xs) h)

@@ -15,17 +15,14 @@ use Rattle.stage.specs.declared.Stage.{Stage}
 use Rattle.stage.specs.Stages.{stageOut, formatAfter}
 use Rattle.stage.specs.Rooms.{suits, framesOut, framesWanted, roomWanted}
 use Rattle.pipeline.specs.declared.Pipeline.{Pipeline}
+pub use Rattle.pipeline.specs.WritingBack.{stagesOf}
 use Rattle.block.specs.declared.Half.{Half}
 use Rattle.block.specs.declared.Half.the-variants as half
 use Rattle.block.specs.declared.Answer.{Answer}
 use Rattle.block.specs.declared.Answer.the-variants as answer
 use Rattle.block.specs.declared.Scratch.{Scratch}
 use Rattle.block.specs.declared.Scratch.the-variants as scratch
-use Rattle.block.specs.Chain.{chainOut, chainNext, formatOut}
-
--- the stages that a chain has
-abbrev pub stagesOf : Pipeline → List Stage
-stagesOf c = take (c .count) (c .stages)
+use Rattle.block.specs.Chain.{chainOut, chainNext, formatLeaving}
 
 -- each stage suits the format that reaches it
 unfoldable pub suited : PcmFormat → List Stage → Bool
@@ -130,7 +127,7 @@ outputBytes c bytes = length (bytesOf (chainOut (stagesOf c) (framesOf (c .forma
 unfoldable pub accepted : Pipeline → ℕ → List ℕ → Halves → Result
 accepted c timestamp bytes h = record {
   chain = countedChain c (chainNext (stagesOf c) (framesOf (c .format .channels) bytes) ++ drop (c .count) (c .stages)) (outputBytes c bytes);
-  answer = answerOf (formatOut (c .format) (stagesOf c)) timestamp (lastHalf (c .count)) (outputBytes c bytes);
+  answer = answerOf (formatLeaving (c .format) (stagesOf c)) timestamp (lastHalf (c .count)) (outputBytes c bytes);
   a = halvesAfter (stagesOf c) (framesOf (c .format .channels) bytes) bytes h .a;
   b = halvesAfter (stagesOf c) (framesOf (c .format .channels) bytes) bytes h .b;
 }

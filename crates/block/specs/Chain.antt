@@ -3,10 +3,10 @@ use mathlib.Core.Path.{_≡_, refl, sym, ap, ap₂, _∙_}
 use mathlib.Core.List.{List, [], _∷_, _++_, map}
 use Prim.Native.Nat.{ℕ, suc}
 use lib.ListN.{length}
-use Rattle.pcm.specs.declared.PcmFormat.{PcmFormat}
 use Rattle.pcm.specs.Frames.{Frame}
+unfoldable pub use Rattle.pipeline.specs.Reset.{formatLeaving}
 use Rattle.stage.specs.declared.Stage.{Stage}
-use Rattle.stage.specs.Stages.{stageOut, stageNext, stageClear, formatAfter, stage-out-nil, stage-next-nil, stage-out-append, stage-next-append, stage-clear-next}
+use Rattle.stage.specs.Stages.{stageOut, stageNext, stageClear, stage-out-nil, stage-next-nil, stage-out-append, stage-next-append, stage-clear-next}
 
 -- what the stages make of frames: stage 1 takes them, each later stage all that the one before makes; no stages: the frames themselves
 abbrev pub chainOut : List Stage → List Frame → List Frame
@@ -17,11 +17,6 @@ chainOut (s ∷ c) xs = chainOut c (stageOut s xs)
 abbrev pub chainNext : List Stage → List Frame → List Stage
 chainNext [] xs = []
 chainNext (s ∷ c) xs = stageNext s xs ∷ chainNext c (stageOut s xs)
-
--- the format that leaves the last stage
-unfoldable pub formatOut : PcmFormat → List Stage → PcmFormat
-formatOut f [] = f
-formatOut f (s ∷ c) = formatOut (formatAfter f (s .kind)) c
 
 -- ---- laws: nothing from nothing, and a stream in two parts is the whole
 pub chain-out-nil : (c : List Stage) → chainOut c [] ≡ []

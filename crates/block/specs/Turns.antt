@@ -12,7 +12,7 @@ use Rattle.stage.specs.declared.Stage.{Stage}
 use Rattle.stage.specs.Stages.{stageOut, stageNext, formatAfter}
 use Rattle.pipeline.specs.declared.Pipeline.{Pipeline}
 use Rattle.block.specs.declared.Outcome.{Outcome}
-use Rattle.block.specs.Chain.{chainOut, chainNext, formatOut}
+use Rattle.block.specs.Chain.{chainOut, chainNext, formatLeaving}
 use Rattle.block.specs.BlockCall.{Halves, put, legal, stagesOf, suited, roomVerdict, halvesVerdict, shorter, passed, countedChain, answerOf, lastHalf}
 
 -- stage 1 reads the block, and each later one the first n bytes of the half that the one before wrote
@@ -40,7 +40,7 @@ pub record Accepts (c : Pipeline) (block a b : List ℕ) : Type 0 where
 pub record Passes (c : Pipeline) (stages : List Stage) (format : PcmFormat) (len : ℕ) (block : List ℕ) (before after : Halves) : Type 0 where
   pub keeps : stages ≡ chainNext (stagesOf c) (framesOf (c .format .channels) block) ++ drop (c .count) (c .stages)
   pub size : len ≡ length (bytesOf (chainOut (stagesOf c) (framesOf (c .format .channels) block)))
-  pub form : (len ≡ 0 → ⊥) → format ≡ formatOut (c .format) (stagesOf c)
+  pub form : (len ≡ 0 → ⊥) → format ≡ formatLeaving (c .format) (stagesOf c)
   pub halves : after ≡ passed 0 (stagesOf c) (framesOf (c .format .channels) block) before
 
 -- before stage i + 1: `old`, `count`, `format`, `block` and `before` are the call's stages, their number, its format, bytes and halves;
@@ -62,7 +62,7 @@ pub record Reached (old : List Stage) (count : ℕ) (format : PcmFormat) (block 
   pub keeps : chainNext (take count old) (framesOf (format .channels) block) ++ drop count old
       ≡ take i stages ++ (chainNext (drop i (take count old)) xs ++ drop count old)
   pub tail : drop i stages ≡ drop i old
-  pub form : formatOut format (take count old) ≡ formatOut f (drop i (take count old))
+  pub form : formatLeaving format (take count old) ≡ formatLeaving f (drop i (take count old))
 
 -- the chain with its stages moved and the block counted, and the answer
 unfoldable pub outcomeOf : Pipeline → List Stage → PcmFormat → ℕ → ℕ → Outcome

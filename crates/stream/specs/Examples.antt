@@ -18,7 +18,7 @@ use Rattle.stage.specs.Stages.{stageOut, stageNext, stageAsOpened}
 use Rattle.stage.specs.Rooms.{ratesSuit, suits, framesOut, framesWanted, roomWanted}
 use Rattle.pipeline.specs.declared.Pipeline.{Pipeline}
 use Rattle.pipeline.specs.Reset.{resetCall}
-use Rattle.block.specs.Chain.{formatOut}
+use Rattle.block.specs.Chain.{formatLeaving}
 use Rattle.block.specs.BlockCall.{suited, legal, roomVerdict, verdictOf, passed, accepted, blockCall}
 use Rattle.stream.specs.Calls.{Call, block, reset, runOf}
 use Rattle.stream.specs.Opened.{Opened, chainAsOpened, opened-with}
@@ -58,5 +58,5 @@ unfolding plainVerdict plainRoom plainStage wholeOutput delivered outputAt blend
 stream-f = refl
 
 output-f : runOf doubling calls .joined ≡ 0 ∷ 0 ∷ 50 ∷ 0 ∷ 100 ∷ 0 ∷ 75 ∷ 0 ∷ []
-unfolding blockCall verdictOf legal suited suits ratesSuit ratesAllowed rateAllowed channelsAllowed formatAllowed roomVerdict roomWanted framesWanted framesOut frameCount outputCount roomFrames accepted passed written bytesOf framesOf sampleOf lowOf highOf formatOut stageOut stageNext resampled stateAfter output outputs next among firstAt outputAt blend interpolated reduced gcd largest resetCall
+unfolding blockCall verdictOf legal suited suits ratesSuit ratesAllowed rateAllowed channelsAllowed formatAllowed roomVerdict roomWanted framesWanted framesOut frameCount outputCount roomFrames accepted passed written bytesOf framesOf sampleOf lowOf highOf formatLeaving stageOut stageNext resampled stateAfter output outputs next among firstAt outputAt blend interpolated reduced gcd largest resetCall
 output-f = refl

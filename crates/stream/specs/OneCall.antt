@@ -23,7 +23,7 @@ use Rattle.block.specs.declared.Half.{Half}
 use Rattle.block.specs.declared.Half.the-variants as half
 use Rattle.block.specs.declared.Answer.{Answer}
 use Rattle.block.specs.declared.Answer.the-variants as answer
-use Rattle.block.specs.Chain.{chainOut, chainNext, formatOut, length-chain-next}
+use Rattle.block.specs.Chain.{chainOut, chainNext, formatLeaving, length-chain-next}
 use Rattle.block.specs.BlockCall.{Halves, Result, put, passed, halvesAfter, lastHalf, answerOf, legal, verdictOf, wholeFrames, sameFormat, stagesOf, shorter, accepted}
 use Rattle.block.specs.Steps.{ask-yes}
 use Rattle.block.specs.Bounds.{legal-parts}
@@ -132,7 +132,7 @@ module _ (c : Pipeline) (eight : length (c .stages) ≡ 8) where
     accepted-output bytes =
         let r : Result = accepted c t block (record { a = a; b = b }) in
         let n : c .count ≡ length (stagesOf c) = sym (length-take-le (c .count) (c .stages) (omega (arith, few))) in
-        output-is (bytesOf (chainOut (stagesOf c) xs)) (formatOut (c .format) (stagesOf c)) t (lastHalf (c .count)) r refl
+        output-is (bytesOf (chainOut (stagesOf c) xs)) (formatLeaving (c .format) (stagesOf c)) t (lastHalf (c .count)) r refl
         (half-holds (stagesOf c) (c .count) xs block (record { a = a; b = b }) r n (bytes-frames (c .format .channels) block (w .whole) bytes) refl refl)
 
   -- reset

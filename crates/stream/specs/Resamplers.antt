@@ -22,7 +22,7 @@ use Rattle.stage.specs.declared.StageKind.{StageKind}
 use Rattle.stage.specs.declared.StageKind.the-variants as kind
 use Rattle.stage.specs.Stages.{stageAsOpened, memoryAsOpened, formatAfter}
 use Rattle.stage.specs.Rooms.{suits, resamples, stage-frames}
-use Rattle.block.specs.Chain.{formatOut}
+use Rattle.block.specs.Chain.{formatLeaving}
 use Rattle.block.specs.BlockCall.{suited}
 use Rattle.stream.specs.Opened.{RatesReduced}
 use Rattle.stream.specs.PlainChain.{plainStage, plainOut, receivedBy, deliveredBy, stage-is-plain}
@@ -95,8 +95,8 @@ plain-frames f k X h a = subst (FramesOf (formatAfter f k .channels)) (stage-is-
 
 -- what has reached the stage that i stages stand before
 pub received-frames : (f : PcmFormat) (ks : List StageKind) (X : List Frame) → suited f (map stageAsOpened ks) ≡ true → FramesOf (f .channels) X
-    → (i : ℕ) → FramesOf (formatOut f (take i (map stageAsOpened ks)) .channels) (receivedBy i ks X)
-unfolding formatOut plainOut
+    → (i : ℕ) → FramesOf (formatLeaving f (take i (map stageAsOpened ks)) .channels) (receivedBy i ks X)
+unfolding formatLeaving plainOut
 received-frames f [] X suit a zero = a
 received-frames f [] X suit a (suc i) = a
 received-frames f (k ∷ ks) X suit a zero = a

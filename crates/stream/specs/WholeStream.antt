@@ -13,7 +13,7 @@ use Rattle.stage.specs.declared.StageKind.{StageKind}
 use Rattle.stage.specs.declared.StageKind.the-variants as kind
 use Rattle.pipeline.specs.declared.Pipeline.{Pipeline}
 use Rattle.pipeline.specs.Opening.{openCall}
-use Rattle.block.specs.Chain.{formatOut}
+use Rattle.block.specs.Chain.{formatLeaving}
 use Rattle.block.specs.BlockCall.{stagesOf, verdictOf, shorter}
 use Rattle.stream.specs.Calls.{Call, Lent, Run, runOf}
 use Rattle.stream.specs.Opened.{kindsOf, Opened}
@@ -42,7 +42,7 @@ pub record WholeStream (o : Pipeline) (X : List Frame) (r : Run) : Type 0 where
   pub count : r .chain .count ≡ o .count
   pub format : r .chain .format ≡ o .format
   pub spare : drop (o .count) (r .chain .stages) ≡ drop (o .count) (o .stages)
-  pub frames : (i : ℕ) → FramesOf (formatOut (o .format) (take i (stagesOf o)) .channels) (receivedBy i (kindsOf o) X)
+  pub frames : (i : ℕ) → FramesOf (formatLeaving (o .format) (take i (stagesOf o)) .channels) (receivedBy i (kindsOf o) X)
   pub resamplers : (i : ℕ) (s : LinearResampler) (later : List StageKind) → drop i (kindsOf o) ≡ kind.Resample s ∷ later → (s .«in_rate» ≡ s .«out_rate» → ⊥)
       → Resampled s (receivedBy i (kindsOf o) X) (deliveredBy i (kindsOf o) X)
   pub questions : (format : PcmFormat) (bytes a b : List ℕ)
@@ -57,7 +57,7 @@ whole-stream-of o opened calls lent =
       count = v .moved .count;
       format = v .moved .format;
       spare = v .moved .spare;
-      frames = λ i. subst (λ (l : List Stage). FramesOf (formatOut (o .format) (take i l) .channels) (receivedBy i (kindsOf o) (streamOf o calls))) (sym (as-opened o opened))
+      frames = λ i. subst (λ (l : List Stage). FramesOf (formatLeaving (o .format) (take i l) .channels) (receivedBy i (kindsOf o) (streamOf o calls))) (sym (as-opened o opened))
           (received-frames (o .format) (kindsOf o) (streamOf o calls) (suit o opened) (v .frames) i);
       resamplers = resampler-in-chain (o .format) (kindsOf o) (streamOf o calls) (suit o opened) (opened .rates) (v .frames);
       questions = verdict-plain o opened v;
