@@ -71,15 +71,6 @@ fn gain_allowed(q15: i32) -> bool
     q15 <= 33554432
 }
 
-fn rates_allowed(in_rate: u32, out_rate: u32) -> bool
-    ensures { λ r. ⌜ r ≡ ratesAllowed «in_rate» «out_rate» ⌝ }
-{
-    if pcm::rate_allowed(in_rate) {
-        return pcm::rate_allowed(out_rate);
-    }
-    false
-}
-
 // Are gain and rates within their limits?
 fn settings_allowed(found: Record) -> bool
     ensures { λ r. ⌜ r ≡ settingsAllowed found ⌝ }
@@ -88,7 +79,7 @@ fn settings_allowed(found: Record) -> bool
         Record::Gain { q15 } => gain_allowed(q15),
         Record::MonoToStereo => true,
         Record::StereoToMono => true,
-        Record::Resample { in_rate, out_rate } => rates_allowed(in_rate, out_rate),
+        Record::Resample { in_rate, out_rate } => resample::rates_allowed(in_rate, out_rate),
         Record::DcBlock { corner: _ } => true,
         Record::Biquad { rate, bits: _ } => pcm::rate_allowed(rate),
     }

@@ -73,7 +73,7 @@ fn gcd(x: u64, y: u64) -> u64
 }
 
 // Are both rates within the limit?
-fn rates_allowed(in_rate: u32, out_rate: u32) -> bool
+pub fn rates_allowed(in_rate: u32, out_rate: u32) -> bool
     ensures { λ r. ⌜ r ≡ ratesAllowed «in_rate» «out_rate» ⌝ }
 {
     if pcm::rate_allowed(in_rate) {
