@@ -41,7 +41,7 @@ taken : (c : tie.After-known-told2 Inv-loop μ-loop)
     (c .before .before .before .before .before .answer .given .0 .0) ≡ answer.Stage (c .before .made .given .0 .0)
 taken c = sym (c .before .before .before .stage-of .ensures) ∙ c .before .made .given .1
 
--- by At-loop: the entry, and that the format was allowed
+-- the entry, from the loop
 abbrev entry : tie.At-loop Inv-loop μ-loop → tie.Start Inv-loop μ-loop
 entry l = l .before .before .before .before .before
 
