@@ -56,12 +56,6 @@ module _ (c : Pipeline) (size : ℕ) where
       let k = both (ltb 0 size) (eqb (size % (c .format .channels * 2)) 0) (q .0) in
       record { chain = legal-parts c (p .0); legal-is = p .0; some = ltb-true _ _ (k .0); whole = eqb-true _ _ (k .1); most = leb-true _ _ (r .0) }
 
-  pub asked-last : (w : Verdict) → sizeAsked c size w ≡ Accepted → w ≡ Accepted
-  asked-last w h =
-      let p = ask-yes (legal c) InvalidFormat _ h in
-      let q = ask-yes (wholeFrames (c .format) size) InvalidGeometry _ (p .1) in
-      ask-yes (leb (size / (c .format .channels * 2)) 8192) TooManyFrames w (q .1) .1
-
   pub frame-some : Sized c size → (b : ℕ) → b ≡ c .format .channels * 2 → 0 < b
   frame-some s b e = omega (arith, s .chain .channels .0)
 

@@ -24,21 +24,8 @@ use Rattle.block.specs.Chain.{chainOut, chainNext, formatLeaving}
 use Rattle.block.specs.BlockCall.{Halves, Result, put, legal, sameFormat, sizeAsked, verdictOf, halvesVerdict, halvesAfter, passed, stagesOf, shorter, counted, countedChain, answerOf, lastHalf, accepted}
 use Rattle.block.specs.Steps.{ask-yes}
 use Rattle.block.specs.Turns.{Accepts, Passes, outcomeOf}
-use Rattle.block.proofs.Asking.{sized, asked-last, no-stages}
+use Rattle.block.proofs.Asking.{no-stages}
 use Rattle.block.proofs.Reaching.{format-none}
-
--- ---- the questions
--- all were answered yes
-accepted-asks : (c : Pipeline) (format : PcmFormat) (size short : ℕ) → verdictOf c format size short ≡ Accepted → sizeAsked c size (ask (sameFormat (c .format) format) Unsupported (halvesVerdict (c .format) (stagesOf c) size short)) ≡ Accepted
-unfolding verdictOf
-accepted-asks c format size short h = h
-
-pub accepts : (c : Pipeline) (format : PcmFormat) (block a b : List ℕ) → verdictOf c format (length block) (shorter a b) ≡ Accepted → Accepts c block a b
-accepts c format block a b h =
-    let q = accepted-asks c format (length block) (shorter a b) h in
-    let z = sized c (length block) _ q in
-    let r = ask-yes (sameFormat (c .format) format) Unsupported _ (asked-last c (length block) _ q) in
-    record { chain = z .legal-is; whole = z .whole; some = z .some; most = z .most; room = r .1 }
 
 -- ---- the answer
 same-answer : (f g : PcmFormat) (t : ℕ) (half : Half) (len : ℕ) → ((len ≡ 0 → ⊥) → f ≡ g) → answerOf f t half len ≡ answerOf g t half len

@@ -2,24 +2,26 @@
 use mathlib.Core.Path.{_≡_, refl, sym, ap, ap₂, _∙_}
 use mathlib.Core.Bool.{Bool, true, false, cond}
 use mathlib.Core.List.{List, [], _∷_}
-use Prim.Native.Nat.{ℕ, suc, _+_, _*_, _≤_, _<_}
+use Prim.Native.Nat.{ℕ, suc, _+_, _*_, _/_, _≤_, _<_}
 use native.Mathlib.Numerals.{add-one}
 use native.Mathlib.Omega.{arith}
-use borrow.Author.Tests.{le-leb, lt-leb, eq-eqb, ne-eqb, leb-true}
-use lib.Dec.{leb}
+use borrow.Author.Tests.{le-leb, lt-leb, eq-eqb, ne-eqb, leb-true, ltb-true, eqb-true}
+use lib.Dec.{leb, ltb}
 use lib.IntN.{pos}
 use lib.ListN.{length, take, drop, getD, drop-of-length-le, length-take}
 use lib.Seq.{drop-cons, getD-take, length-take-le}
 use Rattle.pcm.specs.declared.PcmFormat.{PcmFormat}
 use Rattle.pcm.specs.declared.Error.{Error}
-use Rattle.pcm.specs.declared.Error.the-variants.{BufferTooSmall}
+use Rattle.pcm.specs.declared.Error.the-variants.{InvalidFormat, Unsupported, BufferTooSmall, InvalidGeometry, TooManyFrames}
 use Rattle.pcm.specs.declared.Verdict.{Verdict}
 use Rattle.pcm.specs.declared.Verdict.the-variants.{Accepted, Refused}
 use Rattle.pcm.specs.Refusals.{ask}
 use Rattle.stage.specs.declared.Stage.{Stage}
 use Rattle.stage.specs.Stages.{formatAfter}
-use Rattle.stage.specs.Rooms.{suits, framesOut, framesWanted, roomWanted}
-use Rattle.block.specs.BlockCall.{suited, roomVerdict}
+use Rattle.stage.specs.Rooms.{both, suits, framesOut, framesWanted, roomWanted}
+use Rattle.pipeline.specs.declared.Pipeline.{Pipeline}
+use Rattle.block.specs.BlockCall.{legal, suited, wholeFrames, sameFormat, roomVerdict, verdictOf, shorter}
+use Rattle.block.specs.Turns.{Accepts}
 
 -- ---- the stages from stage i + 1 on
 pub stage-at : {A : Type 0} (l : List A) (count i : ℕ) (d : A) → i < count → count ≤ length l → drop i (take count l) ≡ getD l i d ∷ drop (i + 1) (take count l)
@@ -38,6 +40,17 @@ drop-zero (x ∷ l) = refl
 pub ask-yes : (t : Bool) (e : Error) (v : Verdict) → ask t e v ≡ Accepted → (t ≡ true) × (v ≡ Accepted)
 ask-yes true e v h = (refl, h)
 ask-yes false e v h = (cc, cc)
+
+-- to all of them
+pub accepts : (c : Pipeline) (format : PcmFormat) (block a b : List ℕ) → verdictOf c format (length block) (shorter a b) ≡ Accepted → Accepts c block a b
+unfolding verdictOf
+accepts c format block a b h =
+    let p = ask-yes (legal c) InvalidFormat _ h in
+    let q = ask-yes (wholeFrames (c .format) (length block)) InvalidGeometry _ (p .1) in
+    let r = ask-yes (leb (length block / (c .format .channels * 2)) 8192) TooManyFrames _ (q .1) in
+    let s = ask-yes (sameFormat (c .format) format) Unsupported _ (r .1) in
+    let w = both (ltb 0 (length block)) _ (q .0) in
+    record { chain = p .0; whole = eqb-true _ _ (w .1); some = ltb-true _ _ (w .0); most = leb-true _ _ (r .0); room = s .1 }
 
 module _ (f : PcmFormat) (s : Stage) (rest : List Stage) where
   -- ---- what suits

@@ -25,7 +25,8 @@ use Rattle.stream.specs.Opened.{kindsOf, Opened}
 use Rattle.stream.specs.PlainChain.{plainOut, plainState, chain-is-plain, state-is-plain, clear-is-opened}
 use Rattle.stream.specs.PlainRoom.{plainVerdict, verdict-is-plain}
 use Rattle.stream.specs.Stream.{addedBy, afterFeeding, streamFrom}
-use Rattle.stream.specs.OneCall.{Moved, accepts, accepted-moves, accepted-output, reset-moves}
+use Rattle.block.specs.Steps.{accepts}
+use Rattle.stream.specs.OneCall.{Moved, accepted-moves, accepted-output, reset-moves}
 
 module _ (o : Pipeline) (opened : Opened o) where
   -- the run between two calls

@@ -5,18 +5,15 @@ use mathlib.Core.List.{List, [], _∷_, _++_, map}
 use Prim.Native.Nat.{ℕ, suc, _+_, _*_, _/_, _%_, _≤_}
 use native.Mathlib.Nat.{suc-ne-zero, zero-add, add-zero}
 use native.Mathlib.Omega.{arith}
-use borrow.Author.Tests.{ne-eqb, le-leb, leb-true, ltb-true, eqb-true}
-use lib.Dec.{eqb, leb, ltb}
+use borrow.Author.Tests.{ne-eqb, le-leb}
+use lib.Dec.{eqb, leb}
 use lib.ListN.{length, take, drop, length-append, length-map, length-drop}
 use lib.Seq.{length-take-le, take-at, drop-at}
 use Rattle.pcm.specs.declared.PcmFormat.{PcmFormat}
-use Rattle.pcm.specs.declared.Error.the-variants.{InvalidFormat, Unsupported, InvalidGeometry, TooManyFrames}
-use Rattle.pcm.specs.declared.Verdict.the-variants.{Accepted}
 use Rattle.pcm.specs.Samples.{Bytes}
 use Rattle.pcm.specs.Frames.{Frame, framesOf, bytesOf, written, front-written, bytes-frames}
 use Rattle.stage.specs.declared.Stage.{Stage}
 use Rattle.stage.specs.Stages.{stageOut, stageClear}
-use Rattle.stage.specs.Rooms.{both}
 use Rattle.pipeline.specs.declared.Pipeline.{Pipeline}
 use Rattle.pipeline.specs.Reset.{resetCall}
 use Rattle.block.specs.declared.Half.{Half}
@@ -24,22 +21,10 @@ use Rattle.block.specs.declared.Half.the-variants as half
 use Rattle.block.specs.declared.Answer.{Answer}
 use Rattle.block.specs.declared.Answer.the-variants as answer
 use Rattle.block.specs.Chain.{chainOut, chainNext, formatLeaving, length-chain-next}
-use Rattle.block.specs.BlockCall.{Halves, Result, put, passed, halvesAfter, lastHalf, answerOf, legal, verdictOf, wholeFrames, sameFormat, stagesOf, shorter, accepted}
-use Rattle.block.specs.Steps.{ask-yes}
+use Rattle.block.specs.BlockCall.{Halves, Result, put, passed, halvesAfter, lastHalf, answerOf, legal, stagesOf, shorter, accepted}
 use Rattle.block.specs.Bounds.{legal-parts}
 use Rattle.block.specs.Turns.{Accepts}
 use Rattle.stream.specs.Calls.{sideOf, outputBy, outputOf}
-
--- ---- the questions
-pub accepts : (c : Pipeline) (format : PcmFormat) (block a b : List ℕ) → verdictOf c format (length block) (shorter a b) ≡ Accepted → Accepts c block a b
-unfolding verdictOf
-accepts c format block a b h =
-    let p = ask-yes (legal c) InvalidFormat _ h in
-    let q = ask-yes (wholeFrames (c .format) (length block)) InvalidGeometry _ (p .1) in
-    let r = ask-yes (leb (length block / (c .format .channels * 2)) 8192) TooManyFrames _ (q .1) in
-    let s = ask-yes (sameFormat (c .format) format) Unsupported _ (r .1) in
-    let w = both (ltb 0 (length block)) _ (q .0) in
-    record { chain = p .0; whole = eqb-true _ _ (w .1); some = ltb-true _ _ (w .0); most = leb-true _ _ (r .0); room = s .1 }
 
 -- ---- the half that the last stage wrote to holds its bytes
 abbrev side : ℕ → Halves → List ℕ

@@ -11,7 +11,7 @@ use Rattle.pcm.specs.declared.Verdict.{Verdict}
 use Rattle.pcm.specs.declared.Verdict.the-variants.{Accepted, Refused}
 use Rattle.block.specs.declared.Answer.the-variants as answers
 use Rattle.block.specs.BlockCall.{Halves, Result, blockCall, verdictOf, concluded, accepted, shorter}
-use Rattle.block.proofs.Concluding.{accepts}
+use Rattle.block.specs.Steps.{accepts}
 use Rattle.block.proofs.process.Statement.{statement}
 use Rattle.block.proofs.process.Tie as tie
 
