@@ -79,6 +79,12 @@ fn resample(name: &'static str, given: [u32; 2], channels: u16) -> Case {
     }
 }
 
+type Run = fn(&[u8], &mut [u8]) -> usize;
+
+fn channel_stage(name: &'static str, channels: usize, source: Run, ours: Run) -> Case {
+    Case { name, channels, goal: [None, Some(1.1), Some(1.1)], source: Box::new(source), ours: Box::new(ours) }
+}
+
 pub fn all() -> Vec<Case> {
     vec![
         resample("48,000 to 16,000, mono", [48_000, 16_000], 1),
@@ -101,20 +107,8 @@ pub fn all() -> Vec<Case> {
         gain("gain 32,768 (copy)", 32_768, 1.1),
         gain("gain 65,536 (wide)", 65_536, 1.0),
         gain("gain 33,554,432 (wide)", 33_554_432, 1.0),
-        Case {
-            name: "mono to stereo",
-            channels: 1,
-            goal: [None, Some(1.1), Some(1.1)],
-            source: Box::new(|input, out| process(&mut MonoToStereo, 1, input, out)),
-            ours: Box::new(kernels::mono_to_stereo),
-        },
-        Case {
-            name: "stereo to mono",
-            channels: 2,
-            goal: [None, Some(1.1), Some(1.1)],
-            source: Box::new(|input, out| process(&mut StereoToMono, 2, input, out)),
-            ours: Box::new(kernels::stereo_to_mono),
-        },
+        channel_stage("mono to stereo", 1, |input, out| process(&mut MonoToStereo, 1, input, out), kernels::mono_to_stereo),
+        channel_stage("stereo to mono", 2, |input, out| process(&mut StereoToMono, 2, input, out), kernels::stereo_to_mono),
         Case {
             name: "mix",
             channels: 2,
