@@ -14,15 +14,12 @@ use Rattle.pcm.specs.declared.Verdict.the-variants.{Accepted, Refused}
 use Rattle.pcm.specs.Refusals.{ask, numberOf}
 use Rattle.stage.specs.declared.Stage.{Stage}
 use Rattle.stage.specs.declared.StageKind.{StageKind}
-use Rattle.stage.specs.Stages.{formatAfter}
+use Rattle.stage.specs.Stages.{kindsOf, formatAfter}
 use Rattle.stage.specs.Rooms.{framesWanted, roomWanted}
 use Rattle.pipeline.specs.declared.Pipeline.{Pipeline}
 use Rattle.block.specs.declared.Scratch.the-variants as scratch
 use Rattle.block.specs.BlockCall.{suited, legal, stagesOf, wholeFrames, sameFormat, sizeAsked, halvesVerdict, verdictOf, larger, largest, scratchAnswer, scratchBytes}
 use Rattle.block.specs.Bounds.{Legal, legal-parts, larger-left, larger-right, room-suffices}
-
-abbrev pub kindsOf : List Stage → List StageKind
-kindsOf l = map (λ (s : Stage). s .kind) l
 
 head-is : {A : Type 0} {x y : A} {xs ys : List A} → x ∷ xs ≡ y ∷ ys → x ≡ y
 head-is e = cc

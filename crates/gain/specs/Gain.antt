@@ -1,9 +1,10 @@
 -- gain.rs: a Q15 factor, and a sample times it (document 01). Assumes nothing.
 use mathlib.Core.Path.{_≡_, refl, sym, ap, ap₂, _∙_}
-use mathlib.Core.Bool.{false}
+use mathlib.Core.Bool.{Bool, false}
 use mathlib.Core.List.{List, [], _∷_, map}
 use Prim.Native.Nat.{ℕ, _*_, _%_}
-use lib.IntN.{ℤ, pos, negsuc, _+ℤ_, _*ℤ_, +ℤ-comm, +ℤ-idr}
+use lib.Dec.{leb}
+use lib.IntN.{ℤ, pos, negsuc, natAbs, _+ℤ_, _*ℤ_, +ℤ-comm, +ℤ-idr}
 use lib.Ieee.{Float, fin, binary32, mul}
 use native.Mathlib.Omega.{arith}
 use lib.ListN.{length, length-map}
@@ -14,6 +15,10 @@ use Rattle.pcm.specs.Samples.{Samples, Bytes, held, held16, held-fits, held-sam
 use Rattle.pcm.specs.Frames.{Frame, FrameOf, FramesOf, framesOf, bytesOf, samplewise, all-map}
 use Rattle.pcm.specs.Rounding.{roundSat}
 use Rattle.gain.specs.declared.Gain.{Gain}
+
+-- is a factor within ±33,554,432?
+abbrev pub factorAllowed : ℤ → Bool
+factorAllowed q15 = leb (natAbs q15) 33554432
 
 -- from_q15 holds the factor within ±33,554,432
 unfoldable pub heldFactor : ℤ → ℤ

@@ -5,7 +5,7 @@ ghost use lib.IntN.{natAbs};
 ghost use lib.ListN.{length};
 ghost use Rattle.pcm.specs.Samples.{held16};
 ghost use Rattle.pcm.specs.Frames.{written};
-ghost use Rattle.gain.specs.Gain.{heldFactor, linearFactor, scaled, scaledBytes, unity};
+ghost use Rattle.gain.specs.Gain.{factorAllowed, heldFactor, linearFactor, scaled, scaledBytes, unity};
 use pcm::floats;
 
 pub struct Gain {
@@ -42,6 +42,17 @@ impl Gain {
         Gain {
             q15: floats::round_held(factor * 32768.0, 33554432, 33554432),
         }
+    }
+
+    // Is the factor within the limit?
+    pub fn allowed(self) -> bool
+        ensures { λ r. ⌜ r ≡ factorAllowed (self .q15) ⌝ }
+    {
+        let q = self.q15;
+        if q < -33554432 {
+            return false;
+        }
+        q <= 33554432
     }
 
     // The Q15 factor in use.

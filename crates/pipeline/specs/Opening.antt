@@ -4,7 +4,7 @@ use mathlib.Core.List.{List, [], _∷_, _++_}
 use Prim.Native.Nat.{ℕ, zero, suc, _-_}
 use lib.Dec.{leb, ltb, eqb}
 use lib.Ieee.{binary32, ofBits}
-use lib.IntN.{ℤ, natAbs}
+use Rattle.gain.specs.Gain.{factorAllowed}
 use lib.ListN.{length, drop, replicate}
 use Rattle.pcm.specs.declared.PcmFormat.{PcmFormat}
 use Rattle.pcm.specs.declared.Error.{Error}
@@ -29,11 +29,8 @@ use Rattle.pipeline.specs.declared.opening.StageAnswer.{StageAnswer}
 use Rattle.pipeline.specs.declared.opening.StageAnswer.the-variants as answer
 
 -- ---- one record: are gain and rates within their limits?
-abbrev pub gainAllowed : ℤ → Bool
-gainAllowed q15 = leb (natAbs q15) 33554432
-
 abbrev pub settingsAllowed : Record → Bool
-settingsAllowed (rec.Gain q15) = gainAllowed q15
+settingsAllowed (rec.Gain q15) = factorAllowed q15
 settingsAllowed rec.MonoToStereo = true
 settingsAllowed rec.StereoToMono = true
 settingsAllowed (rec.Resample input output) = ratesAllowed input output

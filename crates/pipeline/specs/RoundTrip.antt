@@ -17,7 +17,7 @@ use Rattle.pcm.specs.Frames.{written, all-drop}
 use Rattle.resample.specs.Opening.{reduced}
 use Rattle.stage.specs.declared.StageKind.{StageKind}
 use Rattle.stage.specs.declared.Stage.{Stage}
-use Rattle.stage.specs.Stages.{stageAsOpened, stageClear, formatAfter}
+use Rattle.stage.specs.Stages.{kindsOf, stageAsOpened, stageClear, formatAfter}
 use Rattle.recipe.specs.declared.Record.{Record}
 use Rattle.recipe.specs.declared.Record.the-variants as rec
 use Rattle.recipe.specs.Records.{recordBytes, recordAt, recordVerdict, whole-record}
@@ -107,14 +107,14 @@ opened-recipe (suc more) f left ss b e =
     (by-first (suc more) f left ss e)
 
 -- a recipe goes by the kinds of the stages alone
-pub recipe-of-kinds : (a b : List Stage) → map (λ (s : Stage). s .kind) a ≡ map (λ (s : Stage). s .kind) b → recipeOf a ≡ recipeOf b
+pub recipe-of-kinds : (a b : List Stage) → kindsOf a ≡ kindsOf b → recipeOf a ≡ recipeOf b
 unfolding recipeOf
 recipe-of-kinds [] [] e = refl
 recipe-of-kinds [] (t ∷ b) e = no-way (cc)
 recipe-of-kinds (s ∷ a) [] e = no-way (cc)
 recipe-of-kinds (s ∷ a) (t ∷ b) e =
     let k : s .kind ≡ t .kind = cc in
-    let m : map (λ (s : Stage). s .kind) a ≡ map (λ (s : Stage). s .kind) b = cc in
+    let m : kindsOf a ≡ kindsOf b = cc in
     ap₂ (λ (x : StageKind) (l : List ℕ). recordBytes (recordOfStage x) ++ l) k (recipe-of-kinds a b m)
 
 -- ---- the calls
@@ -156,7 +156,8 @@ module _ (f : PcmFormat) (bytes : List ℕ) (c : Pipeline) (e : openCall f bytes
   opened-format = let o = opened-from f bytes c e in rw (o .chain-is) (format-is f (o .stages))
 
   module _ (b : Bytes bytes) where
-    recipe-kept : recipeOf (stagesOf c) ≡ bytes
+    -- the records of its stages are the bytes that it was opened from
+    pub recipe-kept : recipeOf (stagesOf c) ≡ bytes
     recipe-kept =
         let o = opened-from f bytes c e in
         ap (λ (d : Pipeline). recipeOf (stagesOf d)) (o .chain-is) ∙ ap recipeOf (opened-stages f (o .stages)) ∙ opened-recipe 8 f bytes (o .stages) b (o .opens)
@@ -167,7 +168,7 @@ module _ (f : PcmFormat) (bytes : List ℕ) (c : Pipeline) (e : openCall f bytes
     opened-writes out h = rw (le-leb (c .count) 8 opened-count, recipe-kept, le-leb (length bytes) (length out) h)
 
     -- what a chain writes opens as the same chain as opened, whatever sound the stages have taken since
-    pub written-opens : (d : Pipeline) → d .format ≡ c .format → map (λ (s : Stage). s .kind) (stagesOf d) ≡ map (λ (s : Stage). s .kind) (stagesOf c)
+    pub written-opens : (d : Pipeline) → d .format ≡ c .format → kindsOf (stagesOf d) ≡ kindsOf (stagesOf c)
         → openCall (d .format) (recipeOf (stagesOf d)) ≡ record { verdict = Accepted; chain = c }
     written-opens d g k = ap₂ openCall (g ∙ opened-format) (recipe-of-kinds (stagesOf d) (stagesOf c) k ∙ recipe-kept) ∙ e
 
@@ -182,7 +183,7 @@ unfolding openCall
 empty-is-none f h = rw (h, open-none 8 f)
 
 -- reset leaves the recipe
-cleared-kinds : (ss : List Stage) → map (λ (s : Stage). s .kind) (map stageClear ss) ≡ map (λ (s : Stage). s .kind) ss
+cleared-kinds : (ss : List Stage) → kindsOf (map stageClear ss) ≡ kindsOf ss
 cleared-kinds [] = refl
 cleared-kinds (s ∷ ss) = ap (λ (l : List StageKind). s .kind ∷ l) (cleared-kinds ss)
 

@@ -6,7 +6,7 @@ ghost use lib.ListN.{replicate};
 ghost use mathlib.Core.List.{[]};
 ghost use Rattle.pcm.specs.Formats.{rateAllowed};
 ghost use Rattle.resample.specs.Opening.{ratesAllowed, reduced};
-ghost use Rattle.pipeline.specs.Opening.{gainAllowed, settingsAllowed, suits, stageKindOf, stageAnswer, verdictOf, unusedStage, chainOf};
+ghost use Rattle.pipeline.specs.Opening.{settingsAllowed, suits, stageKindOf, stageAnswer, verdictOf, unusedStage, chainOf};
 use crate::Opened;
 use crate::Pipeline;
 use biquad::Biquad;
@@ -61,22 +61,12 @@ pub fn unopened(format: PcmFormat, verdict: Verdict) -> Opened
     Opened { verdict, chain }
 }
 
-// Is a factor within the limit?
-fn gain_allowed(q15: i32) -> bool
-    ensures { λ r. ⌜ r ≡ gainAllowed q15 ⌝ }
-{
-    if q15 < -33554432 {
-        return false;
-    }
-    q15 <= 33554432
-}
-
 // Are gain and rates within their limits?
 fn settings_allowed(found: Record) -> bool
     ensures { λ r. ⌜ r ≡ settingsAllowed found ⌝ }
 {
     match found {
-        Record::Gain { q15 } => gain_allowed(q15),
+        Record::Gain { q15 } => Gain { q15 }.allowed(),
         Record::MonoToStereo => true,
         Record::StereoToMono => true,
         Record::Resample { in_rate, out_rate } => resample::rates_allowed(in_rate, out_rate),

@@ -7,13 +7,12 @@ use native.Mathlib.Nat.{le-refl, le-trans, mul-le-mul-right}
 use native.Mathlib.Omega.{arith}
 use borrow.Author.Tests.{leb-true, ltb-true, eqb-true}
 use lib.Dec.{eqb, leb, ltb}
-use lib.IntN.{natAbs}
 use lib.ListN.{length, length-map}
 use Rattle.pcm.specs.declared.PcmFormat.{PcmFormat}
 use Rattle.pcm.specs.Samples.{Samples}
 use Rattle.pcm.specs.Frames.{Frame, FrameOf, FramesOf, bytesOf, written, all-map}
 use Rattle.pcm.specs.Filters.{filtered, tapsOf, length-filtered, filtered-are-frames}
-use Rattle.gain.specs.Gain.{scaled, scaled-frame}
+use Rattle.gain.specs.Gain.{factorAllowed, scaled, scaled-frame}
 use Rattle.channels.specs.Channels.{doubled, mixdown, doubled-frame, mixdown-frame}
 use Rattle.dc_block.specs.DcBlock.{dcTick}
 use Rattle.biquad.specs.Recurrence.{biquadTick}
@@ -38,7 +37,7 @@ ratesSuit r =
 
 -- a stage that opening can have made where this format reaches it, with a phase that a call can have left
 unfoldable pub suits : PcmFormat → StageKind → SoundMemory → Bool
-suits f (kind.Gain g) m = leb (natAbs (g .q15)) 33554432
+suits f (kind.Gain g) m = factorAllowed (g .q15)
 suits f kind.MonoToStereo m = eqb (f .channels) 1
 suits f kind.StereoToMono m = eqb (f .channels) 2
 suits f (kind.Resample r) m = ratesSuit r && (eqb (f .rate) (r .«in_rate») && ltb (m .resampler .phase) (r .«in_r»))

@@ -41,6 +41,10 @@ stageOut s xs = outOf (s .kind) (s .memory) xs
 unfoldable pub stageNext : Stage → List Frame → Stage
 stageNext s xs = record { kind = s .kind; memory = keepsOf (s .kind) (s .memory) xs }
 
+-- ---- the kinds of stages, in chain order
+abbrev pub kindsOf : List Stage → List StageKind
+kindsOf l = map (λ (s : Stage). s .kind) l
+
 -- ---- as opened, and cleared by a reset
 abbrev pub memoryAsOpened : SoundMemory
 memoryAsOpened = record { filter = memoryAtRest; resampler = openedState }

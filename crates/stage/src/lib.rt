@@ -3,7 +3,6 @@ ghost use mathlib.Core.Path.{_≡_};
 ghost use mathlib.Core.Bool.{_&&_};
 ghost use Prim.Native.Nat.{_*_, _≤_};
 ghost use lib.Dec.{eqb, leb, ltb};
-ghost use lib.IntN.{natAbs};
 ghost use Rattle.pcm.specs.Samples.{Samples};
 ghost use Rattle.pcm.specs.Frames.{framesOf};
 ghost use Rattle.resample.specs.Opening.{Rates};
@@ -133,22 +132,13 @@ pub fn stage_suits(format: PcmFormat, stage: Stage) -> bool
     let memory = stage.memory;
     let state = memory.resampler;
     match kind {
-        StageKind::Gain(g) => gain_suits(g),
+        StageKind::Gain(g) => g.allowed(),
         StageKind::MonoToStereo => format.channels == 1,
         StageKind::StereoToMono => format.channels == 2,
         StageKind::Resample(r) => resampler_suits(format.rate, r, state.phase),
         StageKind::DcBlock(_) => true,
         StageKind::Biquad(b) => format.rate == b.rate,
     }
-}
-
-fn gain_suits(g: Gain) -> bool
-    ensures { λ r. ⌜ r ≡ leb (natAbs (g .q15)) 33554432 ⌝ }
-{
-    if g.q15 < -33554432 {
-        return false;
-    }
-    g.q15 <= 33554432
 }
 
 fn resampler_suits(rate: u32, r: LinearResampler, phase: u64) -> bool

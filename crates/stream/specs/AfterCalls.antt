@@ -21,7 +21,7 @@ use Rattle.block.specs.BlockCall.{stagesOf, suited, legal, verdictOf, shorter, 
 use Rattle.block.specs.Bounds.{legal-parts}
 use Rattle.block.specs.Turns.{Accepts}
 use Rattle.stream.specs.Calls.{Call, block, reset, Lent, Run, joinedBy, afterCall, afterCalls}
-use Rattle.stream.specs.Opened.{kindsOf, Opened}
+use Rattle.stream.specs.Opened.{kindsIn, Opened}
 use Rattle.stream.specs.PlainChain.{plainOut, plainState, chain-is-plain, state-is-plain, clear-is-opened}
 use Rattle.stream.specs.PlainRoom.{plainVerdict, verdict-is-plain}
 use Rattle.stream.specs.Stream.{addedBy, afterFeeding, streamFrom}
@@ -36,28 +36,28 @@ module _ (o : Pipeline) (opened : Opened o) where
     pub frames : FramesOf (o .format .channels) X
 
   -- the chain as opened
-  pub as-opened : stagesOf o ≡ map stageAsOpened (kindsOf o)
+  pub as-opened : stagesOf o ≡ map stageAsOpened (kindsIn o)
   as-opened = opened .silent ∙ clear-is-opened (stagesOf o)
 
   few : o .count ≤ 8
   few = legal-parts o (opened .lawful) .few
 
-  pub suit : suited (o .format) (map stageAsOpened (kindsOf o)) ≡ true
+  pub suit : suited (o .format) (map stageAsOpened (kindsIn o)) ≡ true
   suit = sym (ap (suited (o .format)) as-opened) ∙ legal-parts o (opened .lawful) .suit
 
-  pub state-plain : {X : List Frame} {r : Run} → Between X r → stagesOf (r .chain) ≡ plainState (kindsOf o) X
-  state-plain {X} {r} v = v .moved .stages ∙ ap (λ (l : List Stage). chainNext l X) as-opened ∙ state-is-plain (kindsOf o) X
+  pub state-plain : {X : List Frame} {r : Run} → Between X r → stagesOf (r .chain) ≡ plainState (kindsIn o) X
+  state-plain {X} {r} v = v .moved .stages ∙ ap (λ (l : List Stage). chainNext l X) as-opened ∙ state-is-plain (kindsIn o) X
 
-  pub output-plain : {X : List Frame} {r : Run} → Between X r → r .joined ≡ bytesOf (plainOut (kindsOf o) X)
-  output-plain {X} {r} v = v .output ∙ ap bytesOf (ap (λ (l : List Stage). chainOut l X) as-opened ∙ chain-is-plain (kindsOf o) X)
+  pub output-plain : {X : List Frame} {r : Run} → Between X r → r .joined ≡ bytesOf (plainOut (kindsIn o) X)
+  output-plain {X} {r} v = v .output ∙ ap bytesOf (ap (λ (l : List Stage). chainOut l X) as-opened ∙ chain-is-plain (kindsIn o) X)
 
   pub verdict-plain : {X : List Frame} {r : Run} → Between X r → (format : PcmFormat) (bytes a b : List ℕ)
-      → verdictOf (r .chain) format (length bytes) (shorter a b) ≡ plainVerdict (o .format) (kindsOf o) X format bytes (shorter a b)
+      → verdictOf (r .chain) format (length bytes) (shorter a b) ≡ plainVerdict (o .format) (kindsIn o) X format bytes (shorter a b)
   unfolding legal
   verdict-plain {X} {r} v format bytes a b =
       let p = both (leb (o .count) 8) _ (opened .lawful) in
       let q = both (formatAllowed (o .format)) _ (p .1) in
-      verdict-is-plain (r .chain) (o .format) (kindsOf o) X (ap (λ (n : ℕ). leb n 8) (v .moved .count) ∙ p .0) (q .0) suit (v .moved .format) (state-plain v) format bytes (shorter a b)
+      verdict-is-plain (r .chain) (o .format) (kindsIn o) X (ap (λ (n : ℕ). leb n 8) (v .moved .count) ∙ p .0) (q .0) suit (v .moved .format) (state-plain v) format bytes (shorter a b)
 
   -- a chain that moved on from one that had moved
   moves-on : {c d : Pipeline} {l m : List Stage} → Moved o c l → Moved c d m → Moved o d m
@@ -112,7 +112,7 @@ module _ (o : Pipeline) (opened : Opened o) where
     after-block = go (verdictOf (r .chain) format (length bytes) (shorter a b)) refl
       where
         go : (w : Verdict) → verdictOf (r .chain) format (length bytes) (shorter a b) ≡ w
-            → Between (X ++ addedBy (plainVerdict (o .format) (kindsOf o) X format bytes (shorter a b)) Y)
+            → Between (X ++ addedBy (plainVerdict (o .format) (kindsIn o) X format bytes (shorter a b)) Y)
             (joinedBy (r .joined) (concluded (verdictOf (r .chain) format (length bytes) (shorter a b)) (r .chain) t bytes (record { a = a; b = b })))
         go (Refused e) h = rw (← verdict-plain v format bytes a b, h) after-refused
         go Accepted h = rw (← verdict-plain v format bytes a b, h) (after-accepted (accepts (r .chain) format bytes a b h))

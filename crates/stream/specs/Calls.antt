@@ -1,16 +1,13 @@
 -- Lists of calls on a chain (document 01, 'The whole stream'): each is the block call or reset as their promises define them. Definitions only.
 use mathlib.Core.List.{List, [], _∷_, _++_}
 use Prim.Native.Nat.{ℕ}
-use lib.ListN.{take}
 use Rattle.pcm.specs.declared.PcmFormat.{PcmFormat}
 use Rattle.pcm.specs.Samples.{Bytes}
 use Rattle.pipeline.specs.declared.Pipeline.{Pipeline}
 use Rattle.pipeline.specs.Reset.{resetCall}
-use Rattle.block.specs.declared.Half.{Half}
-use Rattle.block.specs.declared.Half.the-variants as half
 use Rattle.block.specs.declared.Answer.{Answer}
 use Rattle.block.specs.declared.Answer.the-variants as answer
-use Rattle.block.specs.BlockCall.{Result, blockCall}
+use Rattle.block.specs.BlockCall.{Result, blockCall, outputOf}
 
 -- every call brings its own block and halves, of any bytes and lengths: format, timestamp, block, half a, half b
 pub data Call : Type 0 where
@@ -22,19 +19,14 @@ abbrev pub Lent : Call → Type 0
 Lent (block format timestamp bytes a b) = Bytes bytes
 Lent reset = Unit {0}
 
--- ---- a call's output, as it stands on return
-abbrev pub sideOf : Half → Result → List ℕ
-sideOf half.A r = r .a
-sideOf half.B r = r .b
-
--- a call that answers 'nothing yet' or a number has empty output
+-- ---- a call's output, as the small call hands it back on return; 'nothing yet' or a number has empty output
 abbrev pub outputBy : Answer → Result → List ℕ
-outputBy (answer.Output format timestamp side len) r = take len (sideOf side r)
+outputBy (answer.Output format timestamp side len) r = outputOf side len (r .a) (r .b)
 outputBy answer.NothingYet r = []
 outputBy (answer.Refused e) r = []
 
-abbrev pub outputOf : Result → List ℕ
-outputOf r = outputBy (r .answer) r
+abbrev pub callOutput : Result → List ℕ
+callOutput r = outputBy (r .answer) r
 
 -- ---- one call after another
 -- the chain, and the output joined since it was opened or last reset
@@ -43,7 +35,7 @@ pub record Run : Type 0 where
   pub joined : List ℕ
 
 abbrev pub joinedBy : List ℕ → Result → Run
-joinedBy joined r = record { chain = r .chain; joined = joined ++ outputOf r }
+joinedBy joined r = record { chain = r .chain; joined = joined ++ callOutput r }
 
 abbrev pub afterCall : Run → Call → Run
 afterCall r (block format timestamp bytes a b) = joinedBy (r .joined) (blockCall (r .chain) format timestamp bytes a b)

@@ -1,4 +1,4 @@
--- The counter `blocks` after any calls (document 01, pipeline.rs). Assumes nothing.
+-- The counters after any calls (document 01, pipeline.rs). Assumes nothing.
 use mathlib.Core.Path.{_≡_, refl, ap, _∙_}
 use mathlib.Core.Bool.{Bool, true, false, cond}
 use mathlib.Core.List.{List, [], _∷_}
@@ -6,7 +6,7 @@ use Prim.Native.Nat.{ℕ, _+_, _≤_, _<_}
 use native.Mathlib.Nat.{zero-add, add-zero}
 use native.Mathlib.Omega.{arith}
 use borrow.Author.Tests.{leb-true, ltb-true, ltb-false, le-leb, lt-leb}
-use lib.Dec.{leb, ltb}
+use lib.Dec.{eqb, leb, ltb}
 use lib.ListN.{length}
 use Rattle.pcm.specs.declared.PcmFormat.{PcmFormat}
 use Rattle.pcm.specs.declared.Error.the-variants.{InvalidFormat}
@@ -19,9 +19,11 @@ use Rattle.pcm.specs.Frames.{Frame}
 use Rattle.pipeline.specs.declared.Pipeline.{Pipeline}
 use Rattle.pipeline.specs.Opening.{Stages, opened, refused, asked, openStages, chainOf, openedOf, openCall}
 use Rattle.pipeline.specs.Reset.{resetCall}
-use Rattle.block.specs.BlockCall.{verdictOf, shorter, counted, accepted, concluded, blockCall}
+use Rattle.block.specs.declared.Answer.{Answer}
+use Rattle.block.specs.declared.Answer.the-variants as answer
+use Rattle.block.specs.BlockCall.{verdictOf, shorter, counted, outputBytes, accepted, concluded, blockCall}
 use Rattle.stream.specs.Calls.{Call, block, reset, Lent, Run, afterCall, afterCalls, runOf}
-use Rattle.stream.specs.Opened.{kindsOf, Opened}
+use Rattle.stream.specs.Opened.{kindsIn, Opened}
 use Rattle.stream.specs.Opening.{opened-chain}
 use Rattle.stream.specs.PlainRoom.{plainVerdict}
 use Rattle.stream.specs.Stream.{afterFeeding}
@@ -38,7 +40,7 @@ oneIfAccepted (Refused e) = 0
 
 -- the accepted blocks in a call on the chain o, after the stream X: one or none
 abbrev pub acceptedBy : Pipeline → List Frame → Call → ℕ
-acceptedBy o X (block format timestamp bytes a b) = oneIfAccepted (plainVerdict (o .format) (kindsOf o) X format bytes (shorter a b))
+acceptedBy o X (block format timestamp bytes a b) = oneIfAccepted (plainVerdict (o .format) (kindsIn o) X format bytes (shorter a b))
 acceptedBy o X reset = 0
 
 abbrev pub acceptedFrom : Pipeline → List Frame → List Call → ℕ
@@ -48,6 +50,21 @@ acceptedFrom o X (call ∷ calls) = acceptedBy o X call + acceptedFrom o (afterF
 -- the accepted blocks in calls on the chain o, before and after resets
 abbrev pub acceptedBlocks : Pipeline → List Call → ℕ
 acceptedBlocks o calls = acceptedFrom o [] calls
+
+-- one for 'nothing yet'
+abbrev pub oneIfNothing : Answer → ℕ
+oneIfNothing (answer.Output format timestamp side len) = 0
+oneIfNothing answer.NothingYet = 1
+oneIfNothing (answer.Refused e) = 0
+
+-- the calls that answer 'nothing yet'
+abbrev pub nothingBy : Run → Call → ℕ
+nothingBy r (block format timestamp bytes a b) = oneIfNothing (blockCall (r .chain) format timestamp bytes a b .answer)
+nothingBy r reset = 0
+
+abbrev pub nothingFrom : Run → List Call → ℕ
+nothingFrom r [] = 0
+nothingFrom r (call ∷ calls) = nothingBy r call + nothingFrom (afterCall r call) calls
 
 -- ---- one call
 one-more : (n : ℕ) → counted (heldCount n) ≡ heldCount (n + 1)
@@ -67,13 +84,35 @@ one-more n = go (ltb n 18446744073709551615) refl
         full true k = let g : n ≤ 18446744073709551615 = leb-true _ _ k in rw e (omega (arith, ltb-false n 18446744073709551615 e))
         full false k = refl
 
-reset-blocks : (c : Pipeline) → resetCall c .blocks ≡ c .blocks
+reset-counters : (c : Pipeline) → (resetCall c .blocks ≡ c .blocks) × (resetCall c .«empty_blocks» ≡ c .«empty_blocks»)
 unfolding resetCall
-reset-blocks c = go (leb (c .count) 8) _ refl
+reset-counters c = go (leb (c .count) 8) _ refl refl
   where
-    go : (t : Bool) (d : Pipeline) → d .blocks ≡ c .blocks → cond t d c .blocks ≡ c .blocks
-    go true d e = e
-    go false d e = refl
+    go : (t : Bool) (d : Pipeline) → d .blocks ≡ c .blocks → d .«empty_blocks» ≡ c .«empty_blocks»
+        → (cond t d c .blocks ≡ c .blocks) × (cond t d c .«empty_blocks» ≡ c .«empty_blocks»)
+    go true d e k = (e, k)
+    go false d e k = (refl, refl)
+
+nothing-call : (r : Run) (call : Call) (n : ℕ) → r .chain .«empty_blocks» ≡ heldCount n → afterCall r call .chain .«empty_blocks» ≡ heldCount (n + nothingBy r call)
+unfolding blockCall accepted
+nothing-call r (block format t bytes a b) n e = go (verdictOf (r .chain) format (length bytes) (shorter a b))
+  where
+    by-length : (z : Bool) (x : Answer) → oneIfNothing x ≡ 0
+        → cond z (counted (r .chain .«empty_blocks»)) (r .chain .«empty_blocks») ≡ heldCount (n + oneIfNothing (cond z answer.NothingYet x))
+    by-length true x h = ap counted e ∙ one-more n
+    by-length false x h = rw (h, add-zero) e
+
+    go : (w : Verdict) → concluded w (r .chain) t bytes (record { a = a; b = b }) .chain .«empty_blocks»
+        ≡ heldCount (n + oneIfNothing (concluded w (r .chain) t bytes (record { a = a; b = b }) .answer))
+    go (Refused x) = rw add-zero e
+    go Accepted = by-length (eqb (outputBytes (r .chain) bytes) 0) _ refl
+nothing-call r reset n e = rw add-zero (reset-counters (r .chain) .1 ∙ e)
+
+nothing-calls : (r : Run) (calls : List Call) (n : ℕ) → r .chain .«empty_blocks» ≡ heldCount n → afterCalls r calls .chain .«empty_blocks» ≡ heldCount (n + nothingFrom r calls)
+nothing-calls r [] n e = rw add-zero e
+nothing-calls r (call ∷ calls) n e =
+    let m : n + nothingBy r call + nothingFrom (afterCall r call) calls ≡ n + nothingFrom r (call ∷ calls) = omega arith in
+    nothing-calls (afterCall r call) calls (n + nothingBy r call) (nothing-call r call n e) ∙ ap heldCount m
 
 module _ (o : Pipeline) (opened : Opened o) where
   counted-call : (X : List Frame) (r : Run) (call : Call) (n : ℕ) → Between o opened X r → r .chain .blocks ≡ heldCount n → afterCall r call .chain .blocks ≡ heldCount (n + acceptedBy o X call)
@@ -82,10 +121,10 @@ module _ (o : Pipeline) (opened : Opened o) where
     where
       go : (w : Verdict) → verdictOf (r .chain) format (length bytes) (shorter a b) ≡ w
           → concluded (verdictOf (r .chain) format (length bytes) (shorter a b)) (r .chain) t bytes (record { a = a; b = b }) .chain .blocks
-          ≡ heldCount (n + oneIfAccepted (plainVerdict (o .format) (kindsOf o) X format bytes (shorter a b)))
+          ≡ heldCount (n + oneIfAccepted (plainVerdict (o .format) (kindsIn o) X format bytes (shorter a b)))
       go (Refused x) h = rw (← verdict-plain o opened v format bytes a b, h, add-zero) e
       go Accepted h = rw (← verdict-plain o opened v format bytes a b, h) (ap counted e ∙ one-more n)
-  counted-call X r reset n v e = rw add-zero (reset-blocks (r .chain) ∙ e)
+  counted-call X r reset n v e = rw add-zero (reset-counters (r .chain) .0 ∙ e)
 
   counted-calls : (X : List Frame) (r : Run) (calls : List Call) (n : ℕ) → Between o opened X r → All Lent calls → r .chain .blocks ≡ heldCount n
       → afterCalls r calls .chain .blocks ≡ heldCount (n + acceptedFrom o X calls)
@@ -96,14 +135,14 @@ module _ (o : Pipeline) (opened : Opened o) where
       ∙ ap heldCount m
 
 -- ---- any calls on a chain that opening returned
-opened-blocks : (f : PcmFormat) (s : Stages) → openedOf f s .chain .blocks ≡ 0
+opened-counters : (f : PcmFormat) (s : Stages) → (openedOf f s .chain .blocks ≡ 0) × (openedOf f s .chain .«empty_blocks» ≡ 0)
 unfolding chainOf
-opened-blocks f (opened ss) = refl
-opened-blocks f (refused e) = refl
+opened-counters f (opened ss) = (refl, refl)
+opened-counters f (refused e) = (refl, refl)
 
-open-blocks : (f : PcmFormat) (recipe : List ℕ) → openCall f recipe .chain .blocks ≡ 0
+open-counters : (f : PcmFormat) (recipe : List ℕ) → (openCall f recipe .chain .blocks ≡ 0) × (openCall f recipe .chain .«empty_blocks» ≡ 0)
 unfolding openCall
-open-blocks f recipe = opened-blocks f (asked (ask (formatAllowed f) InvalidFormat Accepted) (openStages 8 f recipe))
+open-counters f recipe = opened-counters f (asked (ask (formatAllowed f) InvalidFormat Accepted) (openStages 8 f recipe))
 
 -- `blocks` grows with each accepted call; reset clears sound state, not counters
 pub blocks-counted : (f : PcmFormat) (recipe : List ℕ) → openCall f recipe .verdict ≡ Accepted → (calls : List Call) → All Lent calls
@@ -111,5 +150,12 @@ pub blocks-counted : (f : PcmFormat) (recipe : List ℕ) → openCall f recipe .
 unfolding heldCount
 blocks-counted f recipe h calls lent =
     let w : Opened (openCall f recipe .chain) = opened-chain f recipe h in
-    counted-calls (openCall f recipe .chain) w [] (record { chain = openCall f recipe .chain; joined = [] }) calls 0 (begun (openCall f recipe .chain) w) lent (open-blocks f recipe)
+    counted-calls (openCall f recipe .chain) w [] (record { chain = openCall f recipe .chain; joined = [] }) calls 0 (begun (openCall f recipe .chain) w) lent (open-counters f recipe .0)
     ∙ ap heldCount (zero-add (acceptedBlocks (openCall f recipe .chain) calls))
+
+-- `empty_blocks` grows with each 'nothing yet'
+pub empty-blocks-counted : (f : PcmFormat) (recipe : List ℕ) (calls : List Call)
+    → runOf (openCall f recipe .chain) calls .chain .«empty_blocks» ≡ heldCount (nothingFrom (record { chain = openCall f recipe .chain; joined = [] }) calls)
+unfolding heldCount
+empty-blocks-counted f recipe calls =
+    nothing-calls (record { chain = openCall f recipe .chain; joined = [] }) calls 0 (open-counters f recipe .1) ∙ ap heldCount (zero-add (nothingFrom (record { chain = openCall f recipe .chain; joined = [] }) calls))

@@ -9,4 +9,5 @@ pub mod Resamplers
 pub mod AfterCalls
 pub mod WholeStream
 pub mod Counters
+pub mod Afterwards
 pub mod Examples

@@ -3,11 +3,11 @@ use mathlib.Core.Path.{_≡_, refl, sym, ap, ap₂, _∙_}
 use mathlib.Core.Bool.{Bool, true, false, cond}
 use mathlib.Core.List.{List, [], _∷_, _++_, map}
 use Prim.Native.Nat.{ℕ, suc, _+_, _*_, _/_, _%_, _≤_}
-use native.Mathlib.Nat.{suc-ne-zero, zero-add, add-zero}
+use native.Mathlib.Nat.{suc-ne-zero, zero-add, add-zero, min-le-right}
 use native.Mathlib.Omega.{arith}
 use borrow.Author.Tests.{ne-eqb, le-leb}
 use lib.Dec.{eqb, leb}
-use lib.ListN.{length, take, drop, length-append, length-map, length-drop}
+use lib.ListN.{length, take, drop, length-append, length-map, length-drop, length-take}
 use lib.Seq.{length-take-le, take-at, drop-at}
 use Rattle.pcm.specs.declared.PcmFormat.{PcmFormat}
 use Rattle.pcm.specs.Samples.{Bytes}
@@ -21,12 +21,16 @@ use Rattle.block.specs.declared.Half.the-variants as half
 use Rattle.block.specs.declared.Answer.{Answer}
 use Rattle.block.specs.declared.Answer.the-variants as answer
 use Rattle.block.specs.Chain.{chainOut, chainNext, formatLeaving, length-chain-next}
-use Rattle.block.specs.BlockCall.{Halves, Result, put, passed, halvesAfter, lastHalf, answerOf, legal, stagesOf, shorter, accepted}
+use Rattle.block.specs.BlockCall.{Halves, Result, put, passed, halvesAfter, lastHalf, answerOf, legal, stagesOf, shorter, accepted, frontOf, outputOf}
 use Rattle.block.specs.Bounds.{legal-parts}
 use Rattle.block.specs.Turns.{Accepts}
-use Rattle.stream.specs.Calls.{sideOf, outputBy, outputOf}
+use Rattle.stream.specs.Calls.{outputBy, callOutput}
 
 -- ---- the half that the last stage wrote to holds its bytes
+abbrev sideOf : Half → Result → List ℕ
+sideOf half.A r = r .a
+sideOf half.B r = r .b
+
 abbrev side : ℕ → Halves → List ℕ
 side i h = cond (eqb (i % 2) 0) (h .a) (h .b)
 
@@ -62,12 +66,21 @@ half-holds (s ∷ l) n xs bytes h r e q ea eb =
     (side-by (eqb (length l % 2) 0) r ∙ ap₂ (λ (u v : List ℕ). cond (eqb (length l % 2) 0) u v) ea eb)
     ∙ (rw z at (last-side s l 0 xs h)))
 
+front-is : (bytes l : List ℕ) → take (length bytes) l ≡ bytes → frontOf (length bytes) l ≡ bytes
+front-is bytes l h =
+    let n : length bytes ≤ length l = omega (arith, ap length h, length-take (length bytes) l, min-le-right (length bytes) (length l)) in
+    rw (le-leb (length bytes) (length l) n) h
+
+handed-back : (bytes : List ℕ) (side : Half) (r : Result) → take (length bytes) (sideOf side r) ≡ bytes → outputOf side (length bytes) (r .a) (r .b) ≡ bytes
+handed-back bytes half.A r h = front-is bytes (r .a) h
+handed-back bytes half.B r h = front-is bytes (r .b) h
+
 output-is : (bytes : List ℕ) (f : PcmFormat) (t : ℕ) (side : Half) (r : Result) → r .answer ≡ answerOf f t side (length bytes) → take (length bytes) (sideOf side r) ≡ bytes
-    → outputOf r ≡ bytes
+    → callOutput r ≡ bytes
 output-is [] f t side r e h = ap (λ (x : Answer). outputBy x r) e
 output-is (x ∷ bytes) f t side r e h =
     ap (λ (x : Answer). outputBy x r)
-    (e ∙ ap (λ (b : Bool). cond b answer.NothingYet (answer.Output f t side (length (x ∷ bytes)))) (ne-eqb (length (x ∷ bytes)) 0 (suc-ne-zero (length bytes)))) ∙ h
+    (e ∙ ap (λ (b : Bool). cond b answer.NothingYet (answer.Output f t side (length (x ∷ bytes)))) (ne-eqb (length (x ∷ bytes)) 0 (suc-ne-zero (length bytes)))) ∙ handed-back (x ∷ bytes) side r h
 
 -- ---- the first `count` of eight places, each changed, and the spare ones as they were
 module _ (c : Pipeline) (few : c .count ≤ 8) (eight : length (c .stages) ≡ 8) (kept : List Stage) (long : length kept ≡ length (stagesOf c)) where
@@ -112,7 +125,7 @@ module _ (c : Pipeline) (eight : length (c .stages) ≡ 8) where
           places = kept-eight c few eight (chainNext (stagesOf c) xs) n;
         }
 
-    pub accepted-output : Bytes block → outputOf (accepted c t block (record { a = a; b = b })) ≡ bytesOf (chainOut (stagesOf c) xs)
+    pub accepted-output : Bytes block → callOutput (accepted c t block (record { a = a; b = b })) ≡ bytesOf (chainOut (stagesOf c) xs)
     unfolding accepted
     accepted-output bytes =
         let r : Result = accepted c t block (record { a = a; b = b }) in

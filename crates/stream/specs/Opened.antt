@@ -14,7 +14,7 @@ use Rattle.resample.specs.Opening.{reduced}
 use Rattle.stage.specs.declared.Stage.{Stage}
 use Rattle.stage.specs.declared.StageKind.{StageKind}
 use Rattle.stage.specs.declared.StageKind.the-variants as kind
-use Rattle.stage.specs.Stages.{stageAsOpened, stageClear}
+use Rattle.stage.specs.Stages.{kindsOf, stageAsOpened, stageClear}
 use Rattle.pipeline.specs.declared.Pipeline.{Pipeline}
 use Rattle.block.specs.BlockCall.{stagesOf, suited, legal}
 
@@ -27,23 +27,23 @@ RatesReduced (kind.Resample r) = r ≡ reduced (r .«in_rate») (r .«out_rate»
 RatesReduced (kind.DcBlock b) = Unit {0}
 RatesReduced (kind.Biquad b) = Unit {0}
 
--- the kinds of a chain's stages, in chain order
-abbrev pub kindsOf : Pipeline → List StageKind
-kindsOf c = map (λ (s : Stage). s .kind) (stagesOf c)
+-- the kinds of a chain's stages
+abbrev pub kindsIn : Pipeline → List StageKind
+kindsIn c = kindsOf (stagesOf c)
 
 -- one array of eight places, a format and stages that suit one another, and no sound in any stage yet
 pub record Opened (o : Pipeline) : Type 0 where
   pub places : length (o .stages) ≡ 8
   pub lawful : legal o ≡ true
   pub silent : stagesOf o ≡ map stageClear (stagesOf o)
-  pub rates : All RatesReduced (kindsOf o)
+  pub rates : All RatesReduced (kindsIn o)
 
 -- ---- stages as opened of any kinds that suit, in the first places
 clear-of-opened : (ks : List StageKind) → map stageClear (map stageAsOpened ks) ≡ map stageAsOpened ks
 clear-of-opened [] = refl
 clear-of-opened (k ∷ ks) = ap (λ (l : List Stage). stageAsOpened k ∷ l) (clear-of-opened ks)
 
-kinds-of-opened : (ks : List StageKind) → map (λ (s : Stage). s .kind) (map stageAsOpened ks) ≡ ks
+kinds-of-opened : (ks : List StageKind) → kindsOf (map stageAsOpened ks) ≡ ks
 kinds-of-opened [] = refl
 kinds-of-opened (k ∷ ks) = ap (λ (l : List StageKind). k ∷ l) (kinds-of-opened ks)
 

@@ -85,7 +85,7 @@ pub suited-rest : (f : PcmFormat) (k : StageKind) (ks : List StageKind) → suit
 unfolding suited
 suited-rest f k ks h = both (suits f k memoryAsOpened) _ h .1
 
-suited-still : (f : PcmFormat) (ks : List StageKind) (X : List Frame) → suited f (map stageAsOpened ks) ≡ true → suited f (plainState ks X) ≡ true
+pub suited-still : (f : PcmFormat) (ks : List StageKind) (X : List Frame) → suited f (map stageAsOpened ks) ≡ true → suited f (plainState ks X) ≡ true
 unfolding suited plainState
 suited-still f [] X h = refl
 suited-still f (k ∷ ks) X h =

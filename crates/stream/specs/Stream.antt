@@ -6,7 +6,7 @@ use Rattle.pcm.specs.Frames.{Frame, framesOf}
 use Rattle.pipeline.specs.declared.Pipeline.{Pipeline}
 use Rattle.block.specs.BlockCall.{shorter}
 use Rattle.stream.specs.Calls.{Call, block, reset}
-use Rattle.stream.specs.Opened.{kindsOf}
+use Rattle.stream.specs.Opened.{kindsIn}
 use Rattle.stream.specs.PlainRoom.{plainVerdict}
 
 -- a refused block adds nothing
@@ -17,7 +17,7 @@ addedBy (Refused e) Y = []
 -- the stream X after a call on the chain o: an accepted block's frames are added; reset empties it
 abbrev pub afterFeeding : Pipeline → List Frame → Call → List Frame
 afterFeeding o X (block format timestamp bytes a b) =
-    X ++ addedBy (plainVerdict (o .format) (kindsOf o) X format bytes (shorter a b)) (framesOf (o .format .channels) bytes)
+    X ++ addedBy (plainVerdict (o .format) (kindsIn o) X format bytes (shorter a b)) (framesOf (o .format .channels) bytes)
 afterFeeding o X reset = []
 
 abbrev pub streamFrom : Pipeline → List Frame → List Call → List Frame

@@ -16,7 +16,7 @@ use Rattle.pipeline.specs.Opening.{openCall}
 use Rattle.block.specs.Chain.{formatLeaving}
 use Rattle.block.specs.BlockCall.{stagesOf, verdictOf, shorter}
 use Rattle.stream.specs.Calls.{Call, Lent, Run, runOf}
-use Rattle.stream.specs.Opened.{kindsOf, Opened}
+use Rattle.stream.specs.Opened.{kindsIn, Opened}
 use Rattle.stream.specs.Opening.{opened-chain}
 use Rattle.stream.specs.PlainChain.{plainOut, plainState, receivedBy, deliveredBy}
 use Rattle.stream.specs.PlainRoom.{plainVerdict}
@@ -24,7 +24,7 @@ use Rattle.stream.specs.Stream.{streamOf}
 use Rattle.stream.specs.Resamplers.{Resampled, received-frames, resampler-in-chain}
 use Rattle.stream.specs.AfterCalls.{Between, as-opened, suit, state-plain, output-plain, verdict-plain, begun, after-calls}
 
--- o is the chain that opening returned, with stages of the kinds `kindsOf o`.
+-- o is the chain that opening returned, with stages of the kinds `kindsIn o`.
 -- X is the stream, the frames of accepted blocks since opening or the last reset; r holds the chain as the calls left it and their
 -- output joined. Document 01's sentences, by part:
 --   output      'The last stage's frames, as bytes, are the joined output, or the stream itself where there are no stages.'
@@ -37,16 +37,16 @@ use Rattle.stream.specs.AfterCalls.{Between, as-opened, suit, state-plai
 --   questions   'A block is accepted if the questions give it no number ..; the stages that will be reached are those that would then
 --               take frames in the plain chain': of any next block
 pub record WholeStream (o : Pipeline) (X : List Frame) (r : Run) : Type 0 where
-  pub output : r .joined ≡ bytesOf (plainOut (kindsOf o) X)
-  pub state : stagesOf (r .chain) ≡ plainState (kindsOf o) X
+  pub output : r .joined ≡ bytesOf (plainOut (kindsIn o) X)
+  pub state : stagesOf (r .chain) ≡ plainState (kindsIn o) X
   pub count : r .chain .count ≡ o .count
   pub format : r .chain .format ≡ o .format
   pub spare : drop (o .count) (r .chain .stages) ≡ drop (o .count) (o .stages)
-  pub frames : (i : ℕ) → FramesOf (formatLeaving (o .format) (take i (stagesOf o)) .channels) (receivedBy i (kindsOf o) X)
-  pub resamplers : (i : ℕ) (s : LinearResampler) (later : List StageKind) → drop i (kindsOf o) ≡ kind.Resample s ∷ later → (s .«in_rate» ≡ s .«out_rate» → ⊥)
-      → Resampled s (receivedBy i (kindsOf o) X) (deliveredBy i (kindsOf o) X)
+  pub frames : (i : ℕ) → FramesOf (formatLeaving (o .format) (take i (stagesOf o)) .channels) (receivedBy i (kindsIn o) X)
+  pub resamplers : (i : ℕ) (s : LinearResampler) (later : List StageKind) → drop i (kindsIn o) ≡ kind.Resample s ∷ later → (s .«in_rate» ≡ s .«out_rate» → ⊥)
+      → Resampled s (receivedBy i (kindsIn o) X) (deliveredBy i (kindsIn o) X)
   pub questions : (format : PcmFormat) (bytes a b : List ℕ)
-      → verdictOf (r .chain) format (length bytes) (shorter a b) ≡ plainVerdict (o .format) (kindsOf o) X format bytes (shorter a b)
+      → verdictOf (r .chain) format (length bytes) (shorter a b) ≡ plainVerdict (o .format) (kindsIn o) X format bytes (shorter a b)
 
 pub whole-stream-of : (o : Pipeline) → Opened o → (calls : List Call) → All Lent calls → WholeStream o (streamOf o calls) (runOf o calls)
 whole-stream-of o opened calls lent =
@@ -57,9 +57,9 @@ whole-stream-of o opened calls lent =
       count = v .moved .count;
       format = v .moved .format;
       spare = v .moved .spare;
-      frames = λ i. subst (λ (l : List Stage). FramesOf (formatLeaving (o .format) (take i l) .channels) (receivedBy i (kindsOf o) (streamOf o calls))) (sym (as-opened o opened))
-          (received-frames (o .format) (kindsOf o) (streamOf o calls) (suit o opened) (v .frames) i);
-      resamplers = resampler-in-chain (o .format) (kindsOf o) (streamOf o calls) (suit o opened) (opened .rates) (v .frames);
+      frames = λ i. subst (λ (l : List Stage). FramesOf (formatLeaving (o .format) (take i l) .channels) (receivedBy i (kindsIn o) (streamOf o calls))) (sym (as-opened o opened))
+          (received-frames (o .format) (kindsIn o) (streamOf o calls) (suit o opened) (v .frames) i);
+      resamplers = resampler-in-chain (o .format) (kindsIn o) (streamOf o calls) (suit o opened) (opened .rates) (v .frames);
       questions = verdict-plain o opened v;
     }
 

@@ -7,7 +7,7 @@ use Rattle.stage.proofs.stage_suits.Tie as tie
 
 returns : tie.Need-returns
 unfolding suits
-returns c = rw (c .before .before .kind .given .1) (c .gain-suits .ensures)
+returns c = rw (c .before .before .kind .given .1) (c .allowed .ensures)
 
 returns-2 : tie.Need-returns-2
 unfolding suits

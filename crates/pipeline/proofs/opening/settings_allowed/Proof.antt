@@ -10,7 +10,7 @@ returns : tie.Need-returns
 returns c =
     let q = c .before .before .found .given .0 .0 in
     let e : toZ w32 (ofZ w32 q) ≡ q = search needs in
-    rw (c .before .before .found .given .1) (rw e at (c .gain-allowed .ensures))
+    rw (c .before .before .found .given .1) (rw e at (c .allowed .ensures))
 
 pub settings-allowed-spec : {M : Type 1} → statement M
 settings-allowed-spec = tie.close (tie.spec
