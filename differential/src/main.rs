@@ -3,6 +3,7 @@
 //!     differential REPLAY [--long N]    compares; with --long N times as many seeded cases, of other seeds
 //!     differential --sample DIR         writes a sample of script and answers as DIR/stdin and DIR/stdout
 
+mod differences;
 mod families;
 mod model;
 mod protocol;
@@ -32,6 +33,7 @@ fn grouped(number: u64) -> String {
 }
 
 fn compare(replay: PathBuf, rounds: u64, timed: bool) {
+    differences::check();
     let mut session = Session::new(Some(replay));
     for round in 0..rounds {
         families::run(&mut session, SEED + round, round == 0, timed);

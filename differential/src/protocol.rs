@@ -1,26 +1,10 @@
 //! The commands of `replay` and their answers, field by field.
 
-#[derive(Clone, Copy)]
-pub enum Field {
-    U8,
-    U16,
-    U32,
-    U64,
-    I16,
-    I32,
-    F32,
-    F64,
-    Bytes,
-}
-
-use Field::*;
-
-pub type Fields = &'static [(&'static str, Field)];
-
+/// A command's name, its fields and its answer's: each a type and a name.
 pub struct Command {
     pub name: &'static str,
-    pub fields: Fields,
-    pub answer: Fields,
+    pub fields: &'static str,
+    pub answer: &'static str,
 }
 
 pub const OPEN: u8 = 0x01;
@@ -43,56 +27,35 @@ pub const END_MARK: u8 = 0xFF;
 /// The longest "bytes" that a script may hold.
 pub const LONGEST: usize = 262_144;
 
+const fn command(name: &'static str, fields: &'static str, answer: &'static str) -> Command {
+    Command { name, fields, answer }
+}
+
 /// In the order of their bytes, from 0x01.
 pub const COMMANDS: [Command; 14] = [
-    Command { name: "open", fields: &[("rate", U32), ("channels", U16), ("recipe", Bytes)], answer: &[("number", U16)] },
-    Command {
-        name: "block",
-        fields: &[("rate", U32), ("channels", U16), ("timestamp", U64), ("sound", Bytes), ("half a", Bytes), ("half b", Bytes)],
-        answer: &[
-            ("number", U16),
-            ("needed", U64),
-            ("outcome", U8),
-            ("rate", U32),
-            ("channels", U16),
-            ("timestamp", U64),
-            ("half", U8),
-            ("length", U32),
-            ("output", Bytes),
-            ("half a", Bytes),
-            ("half b", Bytes),
-            ("blocks", U64),
-            ("empty_blocks", U64),
-        ],
-    },
-    Command { name: "reset", fields: &[], answer: &[("blocks", U64), ("empty_blocks", U64)] },
-    Command {
-        name: "write recipe",
-        fields: &[("room", Bytes)],
-        answer: &[("number", U16), ("needed", U64), ("length", U32), ("room", Bytes)],
-    },
-    Command { name: "scratch_bytes", fields: &[("length", U64)], answer: &[("number", U16), ("value", U64)] },
-    Command { name: "output format", fields: &[], answer: &[("rate", U32), ("channels", U16)] },
-    Command {
-        name: "mix_i16",
-        fields: &[("a", Bytes), ("b", Bytes), ("out", Bytes)],
-        answer: &[("number", U16), ("needed", U64), ("out", Bytes)],
-    },
-    Command {
-        name: "max_output_frames",
-        fields: &[("input rate", U32), ("output rate", U32), ("frames", U64)],
-        answer: &[("number", U16), ("value", U64)],
-    },
-    Command { name: "pole", fields: &[("corner", F32), ("rate", U32)], answer: &[("number", U16), ("pole", F32)] },
-    Command {
-        name: "design",
-        fields: &[("kind", U8), ("f0", F32), ("q", F32), ("gain_db", F32), ("rate", U32), ("sine", F64), ("cosine", F64), ("a", F64)],
-        answer: &[("number", U16), ("b0", F32), ("b1", F32), ("b2", F32), ("a1", F32), ("a2", F32)],
-    },
-    Command { name: "from_q15", fields: &[("q15", I32)], answer: &[("q15", I32)] },
-    Command { name: "linear", fields: &[("factor", F32)], answer: &[("q15", I32)] },
-    Command { name: "round_sat16", fields: &[("float", F32)], answer: &[("sample", I16)] },
-    Command { name: "sat16", fields: &[("number", I32)], answer: &[("sample", I16)] },
+    command("open", "u32 rate, u16 channels, bytes recipe", "u16 number"),
+    command(
+        "block",
+        "u32 rate, u16 channels, u64 timestamp, bytes sound, bytes half a, bytes half b",
+        "u16 number, u64 needed, u8 outcome, u32 rate, u16 channels, u64 timestamp, u8 half, u32 length, \
+         bytes output, bytes half a, bytes half b, u64 blocks, u64 empty_blocks",
+    ),
+    command("reset", "", "u64 blocks, u64 empty_blocks"),
+    command("write recipe", "bytes room", "u16 number, u64 needed, u32 length, bytes room"),
+    command("scratch_bytes", "u64 length", "u16 number, u64 value"),
+    command("output format", "", "u32 rate, u16 channels"),
+    command("mix_i16", "bytes a, bytes b, bytes out", "u16 number, u64 needed, bytes out"),
+    command("max_output_frames", "u32 input rate, u32 output rate, u64 frames", "u16 number, u64 value"),
+    command("pole", "f32 corner, u32 rate", "u16 number, f32 pole"),
+    command(
+        "design",
+        "u8 kind, f32 f0, f32 q, f32 gain_db, u32 rate, f64 sine, f64 cosine, f64 a",
+        "u16 number, f32 b0, f32 b1, f32 b2, f32 a1, f32 a2",
+    ),
+    command("from_q15", "i32 q15", "i32 q15"),
+    command("linear", "f32 factor", "i32 q15"),
+    command("round_sat16", "f32 float", "i16 sample"),
+    command("sat16", "i32 number", "i16 sample"),
 ];
 
 /// Fields, low byte first, appended to a script or an answer.
@@ -112,29 +75,21 @@ impl Put for Vec<u8> {
     }
 }
 
-fn width(field: Field) -> usize {
-    match field {
-        U8 => 1,
-        U16 | I16 => 2,
-        U32 | I32 | F32 | Bytes => 4,
-        U64 | F64 => 8,
-    }
-}
-
-/// A field's value as text, and what follows it; none where the bytes end inside it.
-fn value(field: Field, from: &[u8]) -> Option<(String, &[u8])> {
-    let (number, rest) = from.split_at_checked(width(field))?;
+/// A value as text, and what follows it; none where the bytes end inside it.
+fn value<'a>(kind: &str, from: &'a [u8]) -> Option<(String, &'a [u8])> {
+    let width = kind[1..].parse().map_or(4, |bits: usize| bits / 8);
+    let (number, rest) = from.split_at_checked(width)?;
     let n = number.iter().rev().fold(0u64, |n, byte| n << 8 | u64::from(*byte));
-    let text = match field {
-        U8 | U16 | U32 | U64 => n.to_string(),
-        I16 => (n as i16).to_string(),
-        I32 => (n as i32).to_string(),
-        F32 => format!("{:?} (0x{n:08X})", f32::from_bits(n as u32)),
-        F64 => format!("{:?} (0x{n:016X})", f64::from_bits(n)),
-        Bytes => {
+    let text = match kind {
+        "i16" => (n as i16).to_string(),
+        "i32" => (n as i32).to_string(),
+        "f32" => format!("{:?} (0x{n:08X})", f32::from_bits(n as u32)),
+        "f64" => format!("{:?} (0x{n:016X})", f64::from_bits(n)),
+        "bytes" => {
             let (bytes, rest) = rest.split_at_checked(n as usize)?;
             return Some((shown(bytes), rest));
         }
+        _ => n.to_string(),
     };
     Some((text, rest))
 }
@@ -145,13 +100,16 @@ fn shown(bytes: &[u8]) -> String {
     format!("{} bytes [{}{}]", bytes.len(), hex.join(" "), if bytes.len() > 48 { " .." } else { "" })
 }
 
-/// The fields as text, as far as the bytes reach, each with its bytes.
-pub fn decode(fields: Fields, mut bytes: &[u8]) -> Vec<(&'static str, String, Vec<u8>)> {
-    let mut texts = Vec::new();
-    for (name, field) in fields {
-        let Some((text, rest)) = value(*field, bytes) else { break };
-        texts.push((*name, text, bytes[..bytes.len() - rest.len()].to_vec()));
+/// One field: its name, its value as text, its bytes.
+pub type Decoded<'a> = (&'static str, String, &'a [u8]);
+
+/// The fields, as far as the bytes reach.
+pub fn decode<'a>(fields: &'static str, mut bytes: &'a [u8]) -> Vec<Decoded<'a>> {
+    let mut decoded = Vec::new();
+    for (kind, name) in fields.split(", ").filter_map(|field| field.split_once(' ')) {
+        let Some((text, rest)) = value(kind, bytes) else { break };
+        decoded.push((name, text, &bytes[..bytes.len() - rest.len()]));
         bytes = rest;
     }
-    texts
+    decoded
 }

@@ -33,8 +33,15 @@ pub fn any(session: &mut Session, random: &mut Random) {
     }
 }
 
-/// Random chains over blocks of up to 8,192 frames.
+/// Random chains over blocks of up to 8,192 frames, and each resampling over several such blocks.
 pub fn long_blocks(session: &mut Session, random: &mut Random) {
+    for rates in recipe::RESAMPLINGS {
+        session.open(Format { rate: rates[0], channels: 1 + random.below(2) as u16 }, &recipe::resample(rates));
+        for _ in 0..5 {
+            let sound = sound_of(session, random, MOST_FRAMES);
+            ample_block(session, random, &sound);
+        }
+    }
     for _ in 0..150 {
         let stages = random.below(9);
         let recipe = recipe::any(random, stages, &mut session.designs);

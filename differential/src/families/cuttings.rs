@@ -86,7 +86,7 @@ pub fn long(session: &mut Session, random: &mut Random) {
         for _ in 0..3 {
             session.open_recipe(&recipe);
             let most = frames_that_fit(session, 2_000);
-            if frames / most > 1_000 {
+            if most < 4 {
                 break;
             }
             let blocks = random_cutting(random, frames, most);
