@@ -11,7 +11,7 @@ use biquad::CoefficientBits;
 use pcm::Error;
 use pcm::Verdict;
 
-mod words;
+pub mod words;
 
 // A record's fields as its bytes give them.
 pub enum Record {

@@ -1,0 +1,524 @@
+// Each command: its fields, the call, its answer. False, or a step that is not ok, where the script ends inside it.
+use crate::Step;
+use crate::input;
+use crate::input::Byte;
+use crate::input::Count;
+use crate::input::Long;
+use crate::input::Short;
+use crate::input::Word;
+use crate::output;
+use biquad::BiquadKind;
+use biquad::Coefficients;
+use biquad::DesignAnswer;
+use block::Answer;
+use block::Half;
+use block::Scratch;
+use dc_block::DcBlock;
+use dc_block::PoleAnswer;
+use gain::Gain;
+use pcm::Error;
+use pcm::PcmFormat;
+use pcm::Verdict;
+use pipeline::Pipeline;
+use pipeline::WriteAnswer;
+use recipe::words;
+use resample::LinearResampler;
+use resample::MaxFrames;
+use resample::NewResampler;
+
+enum FormatField {
+    Value(PcmFormat),
+    End,
+}
+
+enum FloatField {
+    Value(f32),
+    End,
+}
+
+enum DoubleField {
+    Value(f64),
+    End,
+}
+
+fn format_field() -> FormatField {
+    let first = input::read_word();
+    let Word::Value(rate) = first else {
+        return FormatField::End;
+    };
+    let second = input::read_short();
+    let Short::Value(channels) = second else {
+        return FormatField::End;
+    };
+    FormatField::Value(PcmFormat { rate, channels })
+}
+
+fn float_field() -> FloatField {
+    let field = input::read_word();
+    let Word::Value(n) = field else {
+        return FloatField::End;
+    };
+    FloatField::Value(pcm::floats::float_of_bits(n))
+}
+
+fn double_field() -> DoubleField {
+    let field = input::read_long();
+    let Long::Value(n) = field else {
+        return DoubleField::End;
+    };
+    DoubleField::Value(double_of_bits(n))
+}
+
+// The binary64 that a pattern stands for.
+fn double_of_bits(n: u64) -> f64 {
+    if n % 0x8000_0000_0000_0000 > 0x7ff0_0000_0000_0000 {
+        0.0 / 0.0
+    } else {
+        f64::from_bits(n)
+    }
+}
+
+// Number and needed of a refusal.
+fn refusal(e: Error) {
+    output::short(e.number());
+    output::long(e.needed() as u64);
+}
+
+// Number and needed of a result.
+fn result() {
+    output::short(0);
+    output::long(0);
+}
+
+fn ended(chain: Pipeline) -> Step {
+    Step { ok: false, chain }
+}
+
+pub fn open(chain: Pipeline, buf: &mut [u8]) -> Step {
+    let field = format_field();
+    let FormatField::Value(format) = field else {
+        return ended(chain);
+    };
+    let recipe = input::read_bytes(buf);
+    let Count::Value(n) = recipe else {
+        return ended(chain);
+    };
+    let opened = Pipeline::open(format, block::output(buf, buf, Half::A, n));
+    let verdict = opened.verdict;
+    let next = opened.chain;
+    output::short(verdict.number());
+    match verdict {
+        Verdict::Accepted => Step {
+            ok: true,
+            chain: next,
+        },
+        Verdict::Refused(_) => Step { ok: true, chain },
+    }
+}
+
+// Outcome, format, timestamp, half and length, and the output part.
+fn told<'a>(answer: Answer, a: &'a [u8], b: &'a [u8]) {
+    match answer {
+        Answer::Output {
+            format,
+            timestamp,
+            half,
+            len,
+        } => {
+            result();
+            output::byte(1);
+            output::word(format.rate);
+            output::short(format.channels);
+            output::long(timestamp);
+            output::byte(half_number(half));
+            output::length(len);
+            output::bytes(block::output(a, b, half, len));
+        }
+        Answer::NothingYet => {
+            result();
+            output::byte(2);
+            silent();
+        }
+        Answer::Refused(e) => {
+            refusal(e);
+            output::byte(0);
+            silent();
+        }
+    }
+}
+
+fn half_number(half: Half) -> u8 {
+    match half {
+        Half::A => 0,
+        Half::B => 1,
+    }
+}
+
+// The fields of an output where there is none, and its part, empty.
+fn silent() {
+    output::word(0);
+    output::short(0);
+    output::long(0);
+    output::byte(0);
+    output::word(0);
+    output::word(0);
+}
+
+fn counters(chain: Pipeline) {
+    output::long(chain.blocks);
+    output::long(chain.empty_blocks);
+}
+
+// The block call, and every byte that was lent.
+fn played(
+    chain: Pipeline,
+    format: PcmFormat,
+    timestamp: u64,
+    sound: &[u8],
+    a: &mut [u8],
+    b: &mut [u8],
+) -> Pipeline {
+    let done = block::process(chain, format, timestamp, sound, a, b);
+    let answer = done.answer;
+    told(answer, a, b);
+    output::bytes(a);
+    output::bytes(b);
+    let next = done.chain;
+    counters(next);
+    next
+}
+
+// The same with the first n, m and k bytes.
+fn played_in(
+    chain: Pipeline,
+    format: PcmFormat,
+    timestamp: u64,
+    sound: &[u8],
+    n: usize,
+    a: &mut [u8],
+    m: usize,
+    b: &mut [u8],
+    k: usize,
+) -> Pipeline {
+    let m = input::held(m, a);
+    let k = input::held(k, b);
+    played(
+        chain,
+        format,
+        timestamp,
+        block::output(sound, sound, Half::A, n),
+        &mut a[..m],
+        &mut b[..k],
+    )
+}
+
+// Sound and halves, and the call.
+fn block_lent(
+    chain: Pipeline,
+    format: PcmFormat,
+    timestamp: u64,
+    sound: &mut [u8],
+    a: &mut [u8],
+    b: &mut [u8],
+) -> Step {
+    let first = input::read_bytes(sound);
+    let Count::Value(n) = first else {
+        return ended(chain);
+    };
+    let second = input::read_bytes(a);
+    let Count::Value(m) = second else {
+        return ended(chain);
+    };
+    let third = input::read_bytes(b);
+    let Count::Value(k) = third else {
+        return ended(chain);
+    };
+    let next = played_in(chain, format, timestamp, sound, n, a, m, b, k);
+    Step {
+        ok: true,
+        chain: next,
+    }
+}
+
+pub fn block(chain: Pipeline, sound: &mut [u8], a: &mut [u8], b: &mut [u8]) -> Step {
+    let field = format_field();
+    let FormatField::Value(format) = field else {
+        return ended(chain);
+    };
+    let time = input::read_long();
+    let Long::Value(timestamp) = time else {
+        return ended(chain);
+    };
+    block_lent(chain, format, timestamp, sound, a, b)
+}
+
+pub fn reset(chain: Pipeline) -> Step {
+    let next = chain.reset();
+    counters(next);
+    Step {
+        ok: true,
+        chain: next,
+    }
+}
+
+// The call, and the room afterwards.
+fn wrote(chain: Pipeline, room: &mut [u8]) {
+    let answer = chain.write_recipe(room);
+    match answer {
+        WriteAnswer::Written(n) => {
+            result();
+            output::length(n);
+        }
+        WriteAnswer::Refused(e) => {
+            refusal(e);
+            output::word(0);
+        }
+    }
+    output::bytes(room);
+}
+
+pub fn write_recipe(chain: Pipeline, buf: &mut [u8]) -> bool {
+    let room = input::read_bytes(buf);
+    let Count::Value(n) = room else {
+        return false;
+    };
+    let n = input::held(n, buf);
+    wrote(chain, &mut buf[..n]);
+    true
+}
+
+pub fn scratch_bytes(chain: Pipeline) -> bool {
+    let size = input::read_long();
+    let Long::Value(n) = size else {
+        return false;
+    };
+    let answer = block::scratch_bytes(chain, n as usize);
+    match answer {
+        Scratch::Bytes(value) => {
+            output::short(0);
+            output::long(value as u64);
+        }
+        Scratch::Refused(e) => {
+            output::short(e.number());
+            output::long(0);
+        }
+    }
+    true
+}
+
+pub fn output_format(chain: Pipeline) -> bool {
+    let format = chain.output_format();
+    output::word(format.rate);
+    output::short(format.channels);
+    true
+}
+
+// The call, and the room afterwards.
+fn mixed(a: &[u8], b: &[u8], out: &mut [u8]) {
+    let verdict = channels::mix_i16(a, b, out);
+    match verdict {
+        Verdict::Accepted => result(),
+        Verdict::Refused(e) => refusal(e),
+    }
+    output::bytes(out);
+}
+
+pub fn mix(a: &mut [u8], b: &mut [u8], out: &mut [u8]) -> bool {
+    let first = input::read_bytes(a);
+    let Count::Value(n) = first else {
+        return false;
+    };
+    let second = input::read_bytes(b);
+    let Count::Value(m) = second else {
+        return false;
+    };
+    let third = input::read_bytes(out);
+    let Count::Value(k) = third else {
+        return false;
+    };
+    let k = input::held(k, out);
+    mixed(
+        block::output(a, a, Half::A, n),
+        block::output(b, b, Half::A, m),
+        &mut out[..k],
+    );
+    true
+}
+
+// A number of 16 bits and a value of 64.
+fn valued(number: u16, value: u64) {
+    output::short(number);
+    output::long(value);
+}
+
+// What the rates and the frames come to.
+fn most_frames(made: NewResampler, frames: usize) -> MaxFrames {
+    match made {
+        NewResampler::Made(r) => r.max_output_frames(frames),
+        NewResampler::Refused(e) => MaxFrames::Refused(e),
+    }
+}
+
+pub fn max_output_frames() -> bool {
+    let first = input::read_word();
+    let Word::Value(in_rate) = first else {
+        return false;
+    };
+    let second = input::read_word();
+    let Word::Value(out_rate) = second else {
+        return false;
+    };
+    let third = input::read_long();
+    let Long::Value(frames) = third else {
+        return false;
+    };
+    let made = LinearResampler::new(in_rate, out_rate);
+    let answer = most_frames(made, frames as usize);
+    match answer {
+        MaxFrames::Frames(n) => valued(0, n as u64),
+        MaxFrames::Refused(e) => valued(e.number(), 0),
+    }
+    true
+}
+
+pub fn pole() -> bool {
+    let first = float_field();
+    let FloatField::Value(corner) = first else {
+        return false;
+    };
+    let second = input::read_word();
+    let Word::Value(rate) = second else {
+        return false;
+    };
+    let answer = DcBlock::pole(corner, rate);
+    match answer {
+        PoleAnswer::Pole(r) => {
+            output::short(0);
+            output::float(r);
+        }
+        PoleAnswer::Refused(e) => {
+            output::short(e.number());
+            output::word(0);
+        }
+    }
+    true
+}
+
+enum KindField {
+    Value(BiquadKind),
+    End,
+}
+
+// The kind of this number and its settings.
+fn kind_field() -> KindField {
+    let first = input::read_byte();
+    let Byte::Value(number) = first else {
+        return KindField::End;
+    };
+    let second = float_field();
+    let FloatField::Value(f0) = second else {
+        return KindField::End;
+    };
+    let third = float_field();
+    let FloatField::Value(q) = third else {
+        return KindField::End;
+    };
+    let fourth = float_field();
+    let FloatField::Value(gain_db) = fourth else {
+        return KindField::End;
+    };
+    match number {
+        1 => KindField::Value(BiquadKind::LowPass { f0, q }),
+        2 => KindField::Value(BiquadKind::HighPass { f0, q }),
+        3 => KindField::Value(BiquadKind::Peak { f0, q, gain_db }),
+        4 => KindField::Value(BiquadKind::Notch { f0, q }),
+        _ => KindField::End,
+    }
+}
+
+fn coefficients(k: Coefficients) {
+    output::float(k.b0);
+    output::float(k.b1);
+    output::float(k.b2);
+    output::float(k.a1);
+    output::float(k.a2);
+}
+
+fn designed(answer: DesignAnswer) {
+    match answer {
+        DesignAnswer::Designed(k) => {
+            output::short(0);
+            coefficients(k);
+        }
+        DesignAnswer::Refused(e) => {
+            output::short(e.number());
+            output::word(0);
+            output::long(0);
+            output::long(0);
+        }
+    }
+}
+
+pub fn design() -> bool {
+    let first = kind_field();
+    let KindField::Value(kind) = first else {
+        return false;
+    };
+    let second = input::read_word();
+    let Word::Value(rate) = second else {
+        return false;
+    };
+    let third = double_field();
+    let DoubleField::Value(sine) = third else {
+        return false;
+    };
+    let fourth = double_field();
+    let DoubleField::Value(cosine) = fourth else {
+        return false;
+    };
+    let fifth = double_field();
+    let DoubleField::Value(a) = fifth else {
+        return false;
+    };
+    let answer = Coefficients::design(kind, rate, sine, cosine, a);
+    designed(answer);
+    true
+}
+
+pub fn from_q15() -> bool {
+    let field = input::read_word();
+    let Word::Value(n) = field else {
+        return false;
+    };
+    let kept = Gain::from_q15(words::signed(n));
+    output::word(words::bits(kept.q15()));
+    true
+}
+
+pub fn linear() -> bool {
+    let field = float_field();
+    let FloatField::Value(factor) = field else {
+        return false;
+    };
+    let made = Gain::linear(factor);
+    output::word(words::bits(made.q15()));
+    true
+}
+
+pub fn round_sat16() -> bool {
+    let field = float_field();
+    let FloatField::Value(x) = field else {
+        return false;
+    };
+    output::sample(pcm::round_sat16(x));
+    true
+}
+
+pub fn sat16() -> bool {
+    let field = input::read_word();
+    let Word::Value(n) = field else {
+        return false;
+    };
+    output::sample(pcm::sat16(words::signed(n)));
+    true
+}
