@@ -38,6 +38,12 @@ fn compare(replay: PathBuf, rounds: u64, timed: bool) {
     for round in 0..rounds {
         families::run(&mut session, SEED + round, round == 0, timed);
     }
+    if timed {
+        for ((command, number, outcome), answers) in &session.reached {
+            let name = protocol::COMMANDS[usize::from(*command) - 1].name;
+            println!("{name}, number {number}, outcome {outcome}: {}", grouped(*answers));
+        }
+    }
     println!("differential: {} answers, {} bytes, 0 differ", grouped(session.tally.answers), grouped(session.tally.bytes));
 }
 

@@ -59,17 +59,16 @@ pub const GAINS: [i32; 24] = [
 
 pub const CORNERS: [f32; 12] = [20.0, 0.0, -0.0, 1.0, 300.0, 7_000.0, -5.0, 1e-40, 1e30, f32::INFINITY, f32::NEG_INFINITY, f32::NAN];
 
-/// A kind of filter whose f0 the rate takes.
+/// A kind of filter whose f0 the rate takes; one in six at the ends of what the Rust takes.
 pub fn kind(random: &mut Random, rate: u32) -> BiquadKind {
     let nyquist = rate as f32 / 2.0;
-    let f0 = match random.below(8) {
-        0 => nyquist.next_down(),
-        1 => f32::from_bits(1),
-        2 => nyquist * 1e-4,
-        _ => nyquist * (1 + random.below(998)) as f32 / 1_000.0,
-    };
-    let q = random.choice(&[0.5, std::f32::consts::FRAC_1_SQRT_2, 1.0, 4.0, 30.0, 0.01, 1e-30, 1e30, f32::INFINITY]);
-    let gain_db = random.choice(&[0.0, 6.0, -6.0, 12.5, -30.0, 200.0, -200.0, 12_000.0, -12_900.0, 13_000.0, -13_000.0]);
+    let (mut f0, mut q) = (nyquist * (1 + random.below(998)) as f32 / 1_000.0, random.choice(&[0.5, 0.707, 1.0, 4.0, 30.0]));
+    let mut gain_db = random.choice(&[0.0, 6.0, -6.0, 12.5, -30.0]);
+    if random.one_in(6) {
+        f0 = random.choice(&[f0, nyquist.next_down(), nyquist * 1e-4, 1e-45]);
+        q = random.choice(&[q, 0.01, 1e-30, 1e30, f32::INFINITY]);
+        gain_db = random.choice(&[gain_db, 200.0, -200.0, 12_000.0, -12_900.0, 13_000.0, -13_000.0]);
+    }
     match random.below(4) {
         0 => BiquadKind::LowPass { f0, q },
         1 => BiquadKind::HighPass { f0, q },
@@ -78,20 +77,36 @@ pub fn kind(random: &mut Random, rate: u32) -> BiquadKind {
     }
 }
 
-/// A rate to resample to, near enough that the sound does not grow out of bounds.
+/// A rate to resample to, mostly near enough that the sound neither dies out nor grows out of bounds.
 fn rate_from(random: &mut Random, rate: u32) -> u32 {
     loop {
         let out = if random.one_in(4) { 1 + random.below(384_000) as u32 } else { random.choice(&RATES) };
-        if u64::from(out) <= u64::from(rate) * 12 || random.one_in(40) {
+        if (rate / 12..=rate.saturating_mul(12)).contains(&out) || random.one_in(40) {
             return out;
         }
+    }
+}
+
+fn any_gain(random: &mut Random) -> i32 {
+    match random.below(4) {
+        0 => random.choice(&GAINS),
+        1 => (random.next() as i32) >> 6,
+        _ => (random.next() as i32) >> 15,
+    }
+}
+
+fn any_corner(random: &mut Random, rate: u32) -> f32 {
+    match random.below(6) {
+        0 => random.choice(&CORNERS),
+        1 => f32::from_bits(random.next() as u32),
+        _ => rate as f32 * random.below(1_000) as f32 / 7_000.0,
     }
 }
 
 /// A record that suits the format that reaches it; the format becomes the one after it.
 fn next_record(random: &mut Random, format: &mut Format, designs: &mut Designs) -> Vec<u8> {
     match random.below(6) {
-        0 => gain(if random.one_in(3) { (random.next() as i32) >> 6 } else { random.choice(&GAINS) }),
+        0 => gain(any_gain(random)),
         1 => {
             format.channels = 3 - format.channels;
             record(if format.channels == 2 { MONO_TO_STEREO } else { STEREO_TO_MONO }, &[])
@@ -101,7 +116,7 @@ fn next_record(random: &mut Random, format: &mut Format, designs: &mut Designs) 
             let rates = [std::mem::replace(&mut format.rate, out), out];
             resample(rates)
         }
-        3 => dc_block(if random.one_in(3) { f32::from_bits(random.next() as u32) } else { random.choice(&CORNERS) }),
+        3 => dc_block(any_corner(random, format.rate)),
         _ => {
             let kind = kind(random, format.rate);
             biquad(kind, format.rate, designs)
@@ -135,25 +150,9 @@ pub fn lone_stages(random: &mut Random, designs: &mut Designs) -> Vec<Recipe> {
     all
 }
 
+#[rustfmt::skip]
 pub const RESAMPLINGS: [[u32; 2]; 20] = [
-    [8_000, 16_000],
-    [16_000, 8_000],
-    [48_000, 16_000],
-    [16_000, 48_000],
-    [44_100, 16_000],
-    [16_000, 44_100],
-    [47_999, 16_001],
-    [16_001, 47_999],
-    [1, 3],
-    [3, 1],
-    [2, 3],
-    [1, 1],
-    [16_000, 16_000],
-    [384_000, 384_000],
-    [384_000, 1],
-    [1, 48_000],
-    [1, 131_070],
-    [1, 384_000],
-    [384_000, 383_999],
-    [383_999, 384_000],
+    [8_000, 16_000], [16_000, 8_000], [48_000, 16_000], [16_000, 48_000], [44_100, 16_000], [16_000, 44_100], [47_999, 16_001],
+    [16_001, 47_999], [1, 3], [3, 1], [2, 3], [1, 1], [16_000, 16_000], [384_000, 384_000], [384_000, 1], [1, 48_000], [1, 131_070],
+    [1, 384_000], [384_000, 383_999], [383_999, 384_000],
 ];

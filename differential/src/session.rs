@@ -6,7 +6,7 @@ use crate::recipe::{Designs, Recipe};
 use crate::report;
 use crate::source::{Block, Format};
 use oracle::elements::{BiquadKind, Gain};
-use std::collections::BTreeSet;
+use std::collections::BTreeMap;
 use std::io::{Read, Write};
 use std::path::{Path, PathBuf};
 use std::process::{Command as Process, Stdio};
@@ -31,8 +31,8 @@ pub struct Session {
     /// Where each call starts in the script and in the answers.
     pub calls: Vec<[usize; 2]>,
     pub tally: Tally,
-    /// Command, number and outcome of each answer so far.
-    pub reached: BTreeSet<(u8, u16, u8)>,
+    /// How many answers of each command had each number and outcome.
+    pub reached: BTreeMap<(u8, u16, u8), u64>,
 }
 
 fn first_chain() -> Chain {
@@ -66,7 +66,7 @@ impl Session {
             answers: vec![],
             calls: vec![],
             tally: Tally::default(),
-            reached: BTreeSet::new(),
+            reached: BTreeMap::new(),
         }
     }
 
@@ -107,10 +107,16 @@ impl Session {
         self.script.push(command);
     }
 
+    fn reach(&mut self, command: u8, number: u16, outcome: u8) {
+        *self.reached.entry((command, number, outcome)).or_default() += 1;
+    }
+
     /// The number opens most answers.
     fn number(&mut self, number: u16) {
         let command = self.script[self.calls.last().unwrap()[0]];
-        self.reached.insert((command, number, 0));
+        if command != BLOCK {
+            self.reach(command, number, 0);
+        }
         self.answers.put(number.to_le_bytes());
     }
 
@@ -149,7 +155,7 @@ impl Session {
         [block.sound, block.halves[0], block.halves[1]].iter().for_each(|bytes| self.script.put_bytes(bytes));
         let answer = self.chain.block(block);
         self.number(answer.number);
-        self.reached.insert((BLOCK, answer.number, answer.outcome()));
+        self.reach(BLOCK, answer.number, answer.outcome());
         let out = &mut self.answers;
         out.put(answer.needed.to_le_bytes());
         out.put([answer.outcome()]);
@@ -175,7 +181,7 @@ impl Session {
     pub fn reset(&mut self) {
         self.begin(RESET);
         self.chain.reset();
-        self.reached.insert((RESET, 0, 0));
+        self.reach(RESET, 0, 0);
         self.chain.counters.iter().for_each(|counter| self.answers.put(counter.to_le_bytes()));
     }
 
@@ -206,7 +212,7 @@ impl Session {
     pub fn output_format(&mut self) {
         self.begin(OUTPUT_FORMAT);
         let format = self.chain.output_format();
-        self.reached.insert((OUTPUT_FORMAT, 0, 0));
+        self.reach(OUTPUT_FORMAT, 0, 0);
         self.answers.put(format.rate.to_le_bytes());
         self.answers.put(format.channels.to_le_bytes());
     }
@@ -256,7 +262,7 @@ impl Session {
     fn small<const N: usize>(&mut self, command: u8, field: [u8; 4], answer: [u8; N]) {
         self.begin(command);
         self.script.put(field);
-        self.reached.insert((command, 0, 0));
+        self.reach(command, 0, 0);
         self.answers.put(answer);
     }
 

@@ -25,7 +25,7 @@ pub fn lone(session: &mut Session, random: &mut Random) {
 
 /// Random chains under random calls.
 pub fn any(session: &mut Session, random: &mut Random) {
-    for _ in 0..4_000 {
+    for _ in 0..7_000 {
         let stages = random.below(9);
         let recipe = recipe::any(random, stages, &mut session.designs);
         session.open_recipe(&recipe);

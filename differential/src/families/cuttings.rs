@@ -77,7 +77,7 @@ fn random_cutting(random: &mut Random, frames: usize, most: usize) -> Vec<usize>
 
 /// Random cuttings of streams of some thousand frames through random chains, refused blocks among them.
 pub fn long(session: &mut Session, random: &mut Random) {
-    for _ in 0..60 {
+    for _ in 0..300 {
         let stages = 1 + random.below(8);
         let recipe = recipe::any(random, stages, &mut session.designs);
         let mut whole: Option<Vec<u8>> = None;

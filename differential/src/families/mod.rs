@@ -18,12 +18,13 @@ use crate::source::Block;
 type Family = (&'static str, fn(&mut Session, &mut Random));
 
 /// The same cases whatever the seed.
-const FIXED: [Family; 9] = [
+const FIXED: [Family; 10] = [
     ("short recipes", recipes::short),
     ("record lengths", recipes::lengths),
     ("limits of settings", recipes::limits),
     ("nine records", recipes::nine),
     ("cuttings of short streams", cuttings::short),
+    ("every length", room::every_length),
     ("rounding beside every half", numbers::halves),
     ("all samples at many gains", samples::gains),
     ("end marks", ends::every),

@@ -18,28 +18,10 @@ pub fn halves(session: &mut Session, _: &mut Random) {
     }
 }
 
+#[rustfmt::skip]
 const FLOATS: [f32; 21] = [
-    0.0,
-    -0.0,
-    0.5,
-    -0.5,
-    0.49999997,
-    1.0,
-    -1.0,
-    1_023.999_9,
-    1_024.0,
-    -1_024.0,
-    1_024.000_1,
-    2_048.0,
-    -2_048.0,
-    1e9,
-    f32::MAX,
-    f32::MIN,
-    f32::MIN_POSITIVE,
-    1e-45,
-    f32::INFINITY,
-    f32::NEG_INFINITY,
-    f32::NAN,
+    0.0, -0.0, 0.5, -0.5, 0.49999997, 1.0, -1.0, 1_023.999_9, 1_024.0, -1_024.0, 1_024.000_1, 2_048.0, -2_048.0, 1e9, 1e-45,
+    f32::MAX, f32::MIN, f32::MIN_POSITIVE, f32::INFINITY, f32::NEG_INFINITY, f32::NAN,
 ];
 
 const RATES: [u32; 9] = [0, 1, 2, 16_000, 44_100, 383_999, 384_000, 384_001, u32::MAX];
@@ -142,7 +124,7 @@ fn outside(session: &mut Session, kind: BiquadKind) {
 
 /// Numbers of any bits.
 pub fn any(session: &mut Session, random: &mut Random) {
-    leaves(session, random, 200_000);
+    leaves(session, random, 120_000);
     rated(session, random, 60_000);
 }
 

@@ -130,6 +130,10 @@ pub fn damaged(session: &mut Session, random: &mut Random) {
             let room = random.bytes(room);
             session.write_recipe(room);
         }
+        let more = random.below(6);
+        let other = recipe::any(random, more, &mut session.designs);
+        session.open(whole.format, &[&whole.bytes[..], &other.bytes].concat());
+        session.open(other.format, &[&other.bytes[..], &whole.bytes].concat());
         let mut wrong = whole.clone();
         wrong.format.channels = 3 - wrong.format.channels;
         session.open_recipe(&wrong);

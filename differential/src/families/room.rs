@@ -3,7 +3,7 @@
 use super::{Random, Session, ample_block, any_frames, block_over, sound_of};
 use crate::model::BUFFER_TOO_SMALL;
 use crate::protocol::LONGEST;
-use crate::recipe;
+use crate::recipe::{self, Recipe};
 
 /// From empty halves to the exact room: each refusal names the next stage that is short, one byte below it is still refused.
 pub fn climb(session: &mut Session, random: &mut Random) {
@@ -32,6 +32,21 @@ fn climb_once(session: &mut Session, random: &mut Random, sound: &[u8]) {
         for short in [[room - 1, room - 1], [room - 1, larger.max(room)], [larger.max(room), room - 1], [0, room], [room, 0]] {
             block_over(session, random, sound, short);
         }
+    }
+}
+
+/// Each stage kind over every length of block and halves up to some twenty bytes; every room for the recipe.
+pub fn every_length(session: &mut Session, random: &mut Random) {
+    let lone = recipe::lone_stages(random, &mut session.designs);
+    let of_kind = |kind: u8, channels| move |recipe: &&Recipe| recipe.bytes.get(2) == Some(&kind) && recipe.format.channels == channels;
+    let kinds = (1..=6).flat_map(|kind| [1, 2].map(|channels| lone.iter().filter(of_kind(kind, channels)).take(3)));
+    for recipe in kinds.flatten().chain(&lone[..1]) {
+        session.open_recipe(recipe);
+        for (length, a, b) in (0..=9).flat_map(|length| (0..=22).flat_map(move |a| (0..=22).map(move |b| (length, a, b)))) {
+            let sound = random.sound(length);
+            block_over(session, random, &sound, [a, b]);
+        }
+        (0..=recipe.bytes.len() + 2).for_each(|room| session.write_recipe(vec![6; room]));
     }
 }
 

@@ -97,7 +97,7 @@ fn damaged(session: &mut Session, random: &mut Random) {
 
 fn check(session: &Session, sounded: &BTreeSet<u8>) {
     let reached = &session.reached;
-    let has = |wanted: &dyn Fn(&(u8, u16, u8)) -> bool| reached.iter().any(wanted);
+    let has = |wanted: &dyn Fn(&(u8, u16, u8)) -> bool| reached.keys().any(wanted);
     (1..=COMMANDS.len() as u8).for_each(|command| assert!(has(&|seen| seen.0 == command), "command {command} is not in the sample"));
     (1..=10).for_each(|number| assert!(has(&|seen| seen.1 == number), "refusal {number} is not in the sample"));
     (0..=2).for_each(|outcome| assert!(has(&|seen| seen.0 == BLOCK && seen.2 == outcome), "outcome {outcome} is not in the sample"));
