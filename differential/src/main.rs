@@ -24,7 +24,7 @@ fn grouped(number: u64) -> String {
     let figures = number.to_string();
     let mut out = String::new();
     for (i, figure) in figures.chars().enumerate() {
-        if i > 0 && (figures.len() - i) % 3 == 0 {
+        if i > 0 && (figures.len() - i).is_multiple_of(3) {
             out.push(',');
         }
         out.push(figure);

@@ -50,7 +50,8 @@ pub fn answered(replay: &Path, script: &[u8]) -> Vec<u8> {
         scope.spawn(move || input.write_all(script));
         output.read_to_end(&mut found).expect("replay's answers cannot be read");
     });
-    child.wait().expect("replay was not started");
+    let status = child.wait().expect("replay was not started");
+    assert!(status.code().is_some(), "replay was stopped by a signal");
     found
 }
 

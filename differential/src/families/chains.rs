@@ -1,6 +1,6 @@
 //! Every stage kind alone, chains of up to eight, and calls of every sort on them.
 
-use super::{Random, Session, ample_block, any_frames, block_over, sound_of};
+use super::{Random, Session, any_frames, block_over, feed, open_any, sound_of};
 use crate::model::MOST_FRAMES;
 use crate::recipe;
 use crate::source::{Block, Format};
@@ -11,13 +11,11 @@ pub fn lone(session: &mut Session, random: &mut Random) {
         session.open_recipe(&recipe);
         session.output_format();
         for frames in [1, 1, 2, 3, 17, 255] {
-            let sound = sound_of(session, random, frames);
-            ample_block(session, random, &sound);
+            feed(session, random, frames);
         }
         session.reset();
         for frames in [1, 31, random.choice(&[8_191, 8_192]), 5] {
-            let sound = sound_of(session, random, frames);
-            ample_block(session, random, &sound);
+            feed(session, random, frames);
         }
         any_call(session, random);
     }
@@ -25,10 +23,9 @@ pub fn lone(session: &mut Session, random: &mut Random) {
 
 /// Random chains under random calls.
 pub fn any(session: &mut Session, random: &mut Random) {
-    for _ in 0..7_000 {
+    for _ in 0..5_500 {
         let stages = random.below(9);
-        let recipe = recipe::any(random, stages, &mut session.designs);
-        session.open_recipe(&recipe);
+        open_any(session, random, stages);
         (0..4 + random.below(16)).for_each(|_| any_call(session, random));
     }
 }
@@ -38,17 +35,14 @@ pub fn long_blocks(session: &mut Session, random: &mut Random) {
     for rates in recipe::RESAMPLINGS {
         session.open(Format { rate: rates[0], channels: 1 + random.below(2) as u16 }, &recipe::resample(rates));
         for _ in 0..5 {
-            let sound = sound_of(session, random, MOST_FRAMES);
-            ample_block(session, random, &sound);
+            feed(session, random, MOST_FRAMES);
         }
     }
     for _ in 0..150 {
         let stages = random.below(9);
-        let recipe = recipe::any(random, stages, &mut session.designs);
-        session.open_recipe(&recipe);
+        open_any(session, random, stages);
         for frames in [8_192, 8_191, 1 + random.below(MOST_FRAMES)] {
-            let sound = sound_of(session, random, frames);
-            ample_block(session, random, &sound);
+            feed(session, random, frames);
         }
     }
 }
@@ -57,8 +51,7 @@ pub fn long_blocks(session: &mut Session, random: &mut Random) {
 pub fn refused_blocks(session: &mut Session, random: &mut Random) {
     for _ in 0..40 {
         let stages = random.below(9);
-        let recipe = recipe::any(random, stages, &mut session.designs);
-        session.open_recipe(&recipe);
+        open_any(session, random, stages);
         for length in 0..8 {
             let sound = random.bytes(length);
             block_over(session, random, &sound, [5 * length, 64]);
@@ -124,8 +117,7 @@ pub fn any_call(session: &mut Session, random: &mut Random) {
         }
         _ => {
             let frames = any_frames(random);
-            let sound = sound_of(session, random, frames);
-            ample_block(session, random, &sound);
+            feed(session, random, frames);
         }
     }
 }

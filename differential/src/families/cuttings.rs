@@ -2,6 +2,7 @@
 
 use super::{Random, Session, ample_block, block_over, frames_that_fit};
 use crate::recipe::{self, Recipe};
+use crate::source::Format;
 
 /// Feeds a stream in blocks of the frames given and joins what comes out.
 fn joined(session: &mut Session, random: &mut Random, stream: &[u8], blocks: &[usize]) -> Vec<u8> {
@@ -37,25 +38,22 @@ fn blocks_of(cutting: usize, frames: usize) -> Vec<usize> {
 
 /// All cuttings of streams of 1 to 8 frames, for each stage kind.
 pub fn short(session: &mut Session, random: &mut Random) {
-    let lone = recipe::lone_stages(random, &mut session.designs);
-    let mut recipes: Vec<Recipe> =
-        lone.into_iter().filter(|recipe| recipe.format.rate > 3 || recipe.bytes.len() != 12).step_by(3).collect();
-    for rates in [[1, 3], [3, 1], [2, 3], [3, 2], [1, 1], [7, 3], [48_000, 16_000], [44_100, 16_000], [47_999, 16_001]] {
-        for channels in [1, 2] {
-            recipes.push(Recipe { format: crate::source::Format { rate: rates[0], channels }, bytes: recipe::resample(rates) });
-        }
-    }
-    for recipe in recipes {
+    let mut lone = recipe::lone_stages(random, &mut session.designs);
+    lone.retain(|recipe| recipe.bytes.get(2) != Some(&(recipe::RESAMPLE as u8)));
+    let rates = recipe::RESAMPLINGS.into_iter().filter(|rates| rates[1] / rates[0] < 12).chain([[3, 2], [7, 3]]);
+    let resamplings = rates
+        .flat_map(|rates| [1, 2].map(|channels| Recipe { format: Format { rate: rates[0], channels }, bytes: recipe::resample(rates) }));
+    let others = lone.split_off(3).into_iter().step_by(3);
+    for recipe in lone.into_iter().chain(others).chain(resamplings) {
         for frames in 1..=8usize {
             let stream = random.sound(frames * recipe.format.frame());
             session.open_recipe(&recipe);
             let whole = joined(session, random, &stream, &[frames]);
             for cutting in 1..1usize << (frames - 1) {
                 let blocks = blocks_of(cutting, frames);
-                if cutting % 2 == 0 {
-                    session.reset()
-                } else {
-                    let _ = session.open_recipe(&recipe);
+                match cutting % 2 {
+                    0 => session.reset(),
+                    _ => _ = session.open_recipe(&recipe),
                 }
                 let cut = joined(session, random, &stream, &blocks);
                 same_joined(session, &whole, &cut, &blocks);
@@ -77,7 +75,7 @@ fn random_cutting(random: &mut Random, frames: usize, most: usize) -> Vec<usize>
 
 /// Random cuttings of streams of some thousand frames through random chains, refused blocks among them.
 pub fn long(session: &mut Session, random: &mut Random) {
-    for _ in 0..300 {
+    for _ in 0..150 {
         let stages = 1 + random.below(8);
         let recipe = recipe::any(random, stages, &mut session.designs);
         let mut whole: Option<Vec<u8>> = None;
@@ -86,7 +84,7 @@ pub fn long(session: &mut Session, random: &mut Random) {
         for _ in 0..3 {
             session.open_recipe(&recipe);
             let most = frames_that_fit(session, 2_000);
-            if most < 4 {
+            if most < 256 {
                 break;
             }
             let blocks = random_cutting(random, frames, most);

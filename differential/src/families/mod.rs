@@ -12,6 +12,7 @@ mod samples;
 use crate::model::{BlockAnswer, MOST_FRAMES};
 use crate::protocol::LONGEST;
 use crate::random::Random;
+use crate::recipe::{self, Recipe};
 use crate::session::Session;
 use crate::source::Block;
 
@@ -55,10 +56,18 @@ pub fn run(session: &mut Session, seed: u64, fixed: bool, timed: bool) {
         session.family = name;
         family(session, &mut random);
         session.run();
+        session.designs.clear();
         if timed {
             println!("{name}: {} answers, {:.1} s", session.tally.answers - answers, start.elapsed().as_secs_f32());
         }
     }
+}
+
+/// Opens a chain of so many stages of any kinds.
+fn open_any(session: &mut Session, random: &mut Random, stages: usize) -> Recipe {
+    let recipe = recipe::any(random, stages, &mut session.designs);
+    session.open_recipe(&recipe);
+    recipe
 }
 
 /// A block in the chain's format, with halves of the lengths given and any contents.
@@ -94,6 +103,12 @@ fn frames_that_fit(session: &mut Session, wanted: usize) -> usize {
 fn sound_of(session: &mut Session, random: &mut Random, frames: usize) -> Vec<u8> {
     let frames = frames_that_fit(session, frames);
     random.sound(frames * session.chain.format.frame())
+}
+
+/// A block of so many frames, or as many as fit, with halves that suffice.
+fn feed(session: &mut Session, random: &mut Random, frames: usize) -> BlockAnswer {
+    let sound = sound_of(session, random, frames);
+    ample_block(session, random, &sound)
 }
 
 /// Mostly short, sometimes at the limits.

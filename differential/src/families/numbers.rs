@@ -10,7 +10,7 @@ pub fn halves(session: &mut Session, _: &mut Random) {
     for twice in -65_539..=65_539 {
         let value = twice as f32 / 2.0;
         [value.next_down(), value, value.next_up()].iter().for_each(|float| session.round_sat16(*float));
-        if twice % 16 == 0 || twice > 65_500 || twice < -65_500 {
+        if twice % 16 == 0 || !(-65_500..=65_500).contains(&twice) {
             let factor = value / 32_768.0;
             [factor.next_down(), factor, factor.next_up()].iter().for_each(|float| session.linear(*float));
         }

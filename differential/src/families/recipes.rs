@@ -1,6 +1,6 @@
 //! Opening: short recipes exhaustively, recipes cut and damaged at every byte, settings at their limits.
 
-use super::{Random, Session, ample_block, sound_of};
+use super::{Random, Session, feed};
 use crate::recipe::{self, record};
 use crate::source::Format;
 
@@ -61,8 +61,8 @@ pub fn limits(session: &mut Session, _: &mut Random) {
                 }
                 session.open(format, &record(recipe::BIQUAD, &[other, 0x3F80_0000, 0, 0, 0, 0]));
                 session.write_recipe(vec![7; 30]);
-                session
-                    .open(format, &[recipe::resample([rate, other]), record(recipe::BIQUAD, &[other, 1, 2, 3, 4, 0x7FA0_0001])].concat());
+                let biquad = record(recipe::BIQUAD, &[other, 1, 2, 3, 4, 0x7FA0_0001]);
+                session.open(format, &[recipe::resample([rate, other]), biquad].concat());
                 session.write_recipe(vec![7; 40]);
             }
         }
@@ -140,8 +140,7 @@ pub fn damaged(session: &mut Session, random: &mut Random) {
         wrong.format.rate = 1 + random.below(384_000) as u32;
         session.open_recipe(&wrong);
         if session.chain.comparable {
-            let sound = sound_of(session, random, 1 + round);
-            ample_block(session, random, &sound);
+            feed(session, random, 1 + round);
         }
     }
 }

@@ -1,6 +1,6 @@
 //! Halves exactly full, one byte short at each stage in turn, unequal and empty; the scratch figure.
 
-use super::{Random, Session, ample_block, any_frames, block_over, sound_of};
+use super::{Random, Session, ample_block, any_frames, block_over, open_any, sound_of};
 use crate::model::BUFFER_TOO_SMALL;
 use crate::protocol::LONGEST;
 use crate::recipe::{self, Recipe};
@@ -9,8 +9,7 @@ use crate::recipe::{self, Recipe};
 pub fn climb(session: &mut Session, random: &mut Random) {
     for _ in 0..1_500 {
         let stages = random.below(9);
-        let recipe = recipe::any(random, stages, &mut session.designs);
-        session.open_recipe(&recipe);
+        open_any(session, random, stages);
         for _ in 0..3 {
             let frames = any_frames(random).min(200);
             let sound = sound_of(session, random, frames);
@@ -39,7 +38,7 @@ fn climb_once(session: &mut Session, random: &mut Random, sound: &[u8]) {
 pub fn every_length(session: &mut Session, random: &mut Random) {
     let lone = recipe::lone_stages(random, &mut session.designs);
     let of_kind = |kind: u8, channels| move |recipe: &&Recipe| recipe.bytes.get(2) == Some(&kind) && recipe.format.channels == channels;
-    let kinds = (1..=6).flat_map(|kind| [1, 2].map(|channels| lone.iter().filter(of_kind(kind, channels)).take(3)));
+    let kinds = (1..=6).flat_map(|kind| [1, 2].map(|channels| lone.iter().filter(of_kind(kind, channels)).step_by(6).take(3)));
     for recipe in kinds.flatten().chain(&lone[..1]) {
         session.open_recipe(recipe);
         for (length, a, b) in (0..=9).flat_map(|length| (0..=22).flat_map(move |a| (0..=22).map(move |b| (length, a, b)))) {
@@ -54,8 +53,7 @@ pub fn every_length(session: &mut Session, random: &mut Random) {
 pub fn scratch(session: &mut Session, random: &mut Random) {
     for _ in 0..1_200 {
         let stages = random.below(9);
-        let recipe = recipe::any(random, stages, &mut session.designs);
-        session.open_recipe(&recipe);
+        open_any(session, random, stages);
         let frame = session.chain.format.frame() as u64;
         for length in [0, 1, frame, frame + 1, 8_192 * frame, 8_192 * frame + 1, 8_193 * frame, u64::MAX, u64::MAX - 3, 1 << 63] {
             let _ = session.scratch_bytes(length);

@@ -1,6 +1,6 @@
 //! A sample of scripts, small enough to store, that reaches every command, refusal, outcome and stage kind.
 
-use super::{Random, Session, ample_block, ample_half, any_frames, block_over, chains, ends, numbers, sound_of};
+use super::{Random, Session, ample_block, ample_half, any_frames, block_over, chains, ends, numbers, open_any, sound_of};
 use crate::protocol::{BLOCK, COMMANDS, END_MARK};
 use crate::recipe;
 use crate::source::Format;
@@ -51,8 +51,7 @@ fn longest_block(session: &mut Session, random: &mut Random) {
 fn any_chains(session: &mut Session, random: &mut Random) {
     for _ in 0..35 {
         let stages = random.below(9);
-        let recipe = recipe::any(random, stages, &mut session.designs);
-        session.open_recipe(&recipe);
+        open_any(session, random, stages);
         session.output_format();
         let _ = session.scratch_bytes(random.below(40_000) as u64);
         for _ in 0..5 {
