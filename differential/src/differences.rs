@@ -30,7 +30,7 @@ fn counters() {
 fn formats_and_lengths() {
     let gain = [Stage::Gain(Gain::from_q15(16_384))];
     let (sound, room) = (vec![2; 4 * 8_193], vec![0; 4 * 8_193]);
-    for format in [MONO, Format { rate: 384_001, channels: 2 }] {
+    for format in [MONO, Format { rate: 48_000, channels: 2 }] {
         let block = Block { format, timestamp: 0, sound: &sound[..8_193 * format.frame()], halves: [&room, &room] };
         assert!(process(&gain, [0, 0], block, Address::Even).answer.is_ok(), "any format and any length");
     }
@@ -40,6 +40,7 @@ fn settings() {
     assert_eq!(Gain::linear(f32::NAN).q15(), 0);
     assert_eq!(DcBlock::pole(20.0, 0), f32::NEG_INFINITY);
     assert!(DcBlock::pole(20.0, 384_001).is_finite());
+    assert!(LinearResampler::new(0, 1).is_err() && LinearResampler::new(1, u32::MAX).is_ok());
     assert_eq!(LinearResampler::new(384_001, 1).unwrap().max_output_frames(8_193), 2);
     let peak = |gain_db| BiquadKind::Peak { f0: 1_000.0, q: 1.0, gain_db };
     assert!(Coefficients::design(peak(0.0), 384_001).is_ok(), "a rate above the limit");
@@ -47,8 +48,8 @@ fn settings() {
     assert_eq!(Coefficients::design(peak(13_000.0), 16_000).unwrap().b0, f32::INFINITY);
     assert_eq!(Given::by_source(peak(-13_000.0), 16_000).a, 0.0);
     assert!(Coefficients::design(peak(-13_000.0), 16_000).unwrap().a2.is_nan());
-    let within = Given::by_source(peak(-12_900.0), 16_000).a;
-    assert!(within > 0.0 && Coefficients::design(peak(-12_900.0), 16_000).unwrap().a2.is_nan(), "a NaN within the domain");
+    assert_eq!(Given::by_source(peak(-12_900.0), 16_000).a, 3e-323);
+    assert!(Coefficients::design(peak(-12_900.0), 16_000).unwrap().a2.is_nan(), "a NaN within the domain");
 }
 
 pub fn check() {

@@ -1,6 +1,8 @@
 //! The differential run: scripts for the program `replay`, and what the unchanged source says every answer must be.
 //!
-//!     differential REPLAY [--long N]    compares; with --long N times as many seeded cases, of other seeds
+//!     differential REPLAY               compares
+//!     differential REPLAY --long N      with the cases of N seeds
+//!     differential REPLAY --times       says what each family took and which answers were reached
 //!     differential --sample DIR         writes a sample of script and answers as DIR/stdin and DIR/stdout
 
 mod differences;
@@ -65,7 +67,7 @@ fn main() {
         [replay, "--times"] => compare(replay.into(), 1, true),
         [replay, "--long", rounds] => compare(replay.into(), rounds.parse().expect("--long takes a number"), false),
         _ => {
-            eprintln!("usage: differential REPLAY [--long N], or differential --sample DIR");
+            eprintln!("usage: differential REPLAY [--long N | --times], or differential --sample DIR");
             std::process::exit(2);
         }
     }

@@ -34,6 +34,13 @@ pub struct Chain {
     pub counters: [u64; 2],
 }
 
+/// Each kind and the length that its records say.
+#[rustfmt::skip]
+const RECORD_LENGTHS: [(u16, u16); 6] = [
+    (recipe::GAIN, 6), (recipe::MONO_TO_STEREO, 2), (recipe::STEREO_TO_MONO, 2),
+    (recipe::RESAMPLE, 10), (recipe::DC_BLOCK, 6), (recipe::BIQUAD, 26),
+];
+
 /// One record: its kind, its fields, and the bytes after it.
 type Record<'a> = (u16, &'a [u8], &'a [u8]);
 
@@ -43,9 +50,7 @@ fn read_record(recipe: &[u8]) -> Result<Record<'_>, u16> {
     if length < 2 {
         return Err(SHORT_RECORD);
     }
-    let lengths = [(recipe::GAIN, 6), (recipe::MONO_TO_STEREO, 2), (recipe::STEREO_TO_MONO, 2)];
-    let longer = [(recipe::RESAMPLE, 10), (recipe::DC_BLOCK, 6), (recipe::BIQUAD, 26)];
-    let Some((_, own)) = lengths.iter().chain(&longer).find(|(known, _)| *known == kind) else { return Err(UNKNOWN_STAGE) };
+    let Some((_, own)) = RECORD_LENGTHS.iter().find(|(known, _)| *known == kind) else { return Err(UNKNOWN_STAGE) };
     if length != *own {
         return Err(RECORD_LENGTH);
     }

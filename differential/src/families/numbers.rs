@@ -72,6 +72,12 @@ fn given_for(random: &mut Random, kind: BiquadKind, rate: u32) -> Given {
     given
 }
 
+/// Peak gains whose a is near 1, at the ends of binary64, 0 or infinite, and such as have none.
+#[rustfmt::skip]
+const DECIBELS: [f32; 11] = [
+    0.0, 3.0, -60.0, 12_000.0, 12_400.0, -12_900.0, 13_000.0, -13_100.0, f32::NAN, f32::INFINITY, f32::NEG_INFINITY,
+];
+
 /// f0, q and gain_db at their limits, at rates at theirs.
 fn designs(session: &mut Session, random: &mut Random) {
     for rate in RATES {
@@ -80,19 +86,7 @@ fn designs(session: &mut Session, random: &mut Random) {
         for f0 in edges.into_iter().chain([f32::NAN, f32::INFINITY, f32::NEG_INFINITY]) {
             for q in [0.707, 1e-45, 1e-30, 1e38, 0.0, -0.0, -0.5, f32::INFINITY, f32::NEG_INFINITY, f32::NAN] {
                 for make in KINDS {
-                    let gain_db = random.choice(&[
-                        0.0,
-                        3.0,
-                        -60.0,
-                        12_000.0,
-                        12_400.0,
-                        -12_900.0,
-                        13_000.0,
-                        -13_100.0,
-                        f32::NAN,
-                        f32::INFINITY,
-                        f32::NEG_INFINITY,
-                    ]);
+                    let gain_db = random.choice(&DECIBELS);
                     let kind = make(f0, q, gain_db);
                     let given = given_for(random, kind, rate);
                     session.design(kind, rate, given, gain_db);
