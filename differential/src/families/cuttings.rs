@@ -1,0 +1,99 @@
+//! The same stream under many cuttings. The joined output must not depend on the cutting.
+
+use super::{Random, Session, ample_block, block_over, frames_that_fit};
+use crate::recipe::{self, Recipe};
+use crate::source::Format;
+
+/// Feeds a stream in blocks of the frames given and joins what comes out.
+fn joined(session: &mut Session, random: &mut Random, stream: &[u8], blocks: &[usize]) -> Vec<u8> {
+    let frame = session.chain.format.frame();
+    let mut rest = stream;
+    let mut out = Vec::new();
+    for frames in blocks {
+        let (sound, after) = rest.split_at(frames * frame);
+        rest = after;
+        let answer = ample_block(session, random, sound);
+        assert_eq!(answer.number, 0, "a block within its room was refused by the source");
+        out.extend(answer.sound.into_iter().flat_map(|sound| sound.bytes));
+    }
+    out
+}
+
+fn same_joined(session: &Session, whole: &[u8], cut: &[u8], blocks: &[usize]) {
+    assert!(whole == cut, "the source's output depends on the cutting {blocks:?} of {:02X?}", session.chain.recipe);
+}
+
+/// The blocks of a cutting whose bit i tells whether frames i and i + 1 are parted.
+fn blocks_of(cutting: usize, frames: usize) -> Vec<usize> {
+    let mut blocks = vec![1];
+    for i in 0..frames - 1 {
+        if cutting >> i & 1 == 1 {
+            blocks.push(1);
+        } else {
+            *blocks.last_mut().unwrap() += 1;
+        }
+    }
+    blocks
+}
+
+/// All cuttings of streams of 1 to 8 frames, for each stage kind.
+pub fn short(session: &mut Session, random: &mut Random) {
+    let mut lone = recipe::lone_stages(random, &mut session.designs);
+    lone.retain(|recipe| recipe.bytes.get(2) != Some(&(recipe::RESAMPLE as u8)));
+    let rates = recipe::RESAMPLINGS.into_iter().filter(|rates| rates[1] / rates[0] < 12).chain([[3, 2], [7, 3]]);
+    let resamplings = rates
+        .flat_map(|rates| [1, 2].map(|channels| Recipe { format: Format { rate: rates[0], channels }, bytes: recipe::resample(rates) }));
+    let others = lone.split_off(3).into_iter().step_by(3);
+    for recipe in lone.into_iter().chain(others).chain(resamplings) {
+        for frames in 1..=8usize {
+            let stream = random.sound(frames * recipe.format.frame());
+            session.open_recipe(&recipe);
+            let whole = joined(session, random, &stream, &[frames]);
+            for cutting in 1..1usize << (frames - 1) {
+                let blocks = blocks_of(cutting, frames);
+                match cutting % 2 {
+                    0 => session.reset(),
+                    _ => _ = session.open_recipe(&recipe),
+                }
+                let cut = joined(session, random, &stream, &blocks);
+                same_joined(session, &whole, &cut, &blocks);
+            }
+        }
+    }
+}
+
+fn random_cutting(random: &mut Random, frames: usize, most: usize) -> Vec<usize> {
+    let (mut left, mut blocks) = (frames, Vec::new());
+    let typical = 1 + random.below(most);
+    while left > 0 {
+        let block = (1 + random.below(typical)).min(left);
+        blocks.push(block);
+        left -= block;
+    }
+    blocks
+}
+
+/// Random cuttings of streams of some thousand frames through random chains, refused blocks among them.
+pub fn long(session: &mut Session, random: &mut Random) {
+    for _ in 0..150 {
+        let stages = 1 + random.below(8);
+        let recipe = recipe::any(random, stages, &mut session.designs);
+        let mut whole: Option<Vec<u8>> = None;
+        let frames = 500 + random.below(3_000);
+        let stream = random.sound(frames * recipe.format.frame());
+        for _ in 0..3 {
+            session.open_recipe(&recipe);
+            let most = frames_that_fit(session, 2_000);
+            if most < 256 {
+                break;
+            }
+            let blocks = random_cutting(random, frames, most);
+            block_over(session, random, &stream[..recipe.format.frame()], [0, 0]);
+            let cut = joined(session, random, &stream, &blocks);
+            match &whole {
+                None => whole = Some(cut),
+                Some(whole) => same_joined(session, whole, &cut, &blocks),
+            }
+        }
+    }
+}

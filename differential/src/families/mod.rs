@@ -1,0 +1,122 @@
+//! Families of cases.
+
+mod chains;
+mod cuttings;
+mod ends;
+mod numbers;
+mod recipes;
+mod room;
+pub mod sample;
+mod samples;
+
+use crate::model::{BlockAnswer, MOST_FRAMES};
+use crate::protocol::LONGEST;
+use crate::random::Random;
+use crate::recipe::{self, Recipe};
+use crate::session::Session;
+use crate::source::Block;
+
+type Family = (&'static str, fn(&mut Session, &mut Random));
+
+/// The same cases whatever the seed.
+const FIXED: [Family; 10] = [
+    ("short recipes", recipes::short),
+    ("record lengths", recipes::lengths),
+    ("limits of settings", recipes::limits),
+    ("nine records", recipes::nine),
+    ("cuttings of short streams", cuttings::short),
+    ("every length", room::every_length),
+    ("rounding beside every half", numbers::halves),
+    ("all samples at many gains", samples::gains),
+    ("end marks", ends::every),
+    ("limits of numbers", numbers::limits),
+];
+
+/// Other cases with every seed.
+const SEEDED: [Family; 11] = [
+    ("stages alone", chains::lone),
+    ("chains", chains::any),
+    ("chains, long blocks", chains::long_blocks),
+    ("refused blocks", chains::refused_blocks),
+    ("room", room::climb),
+    ("scratch_bytes", room::scratch),
+    ("recipes cut and damaged", recipes::damaged),
+    ("cuttings of long streams", cuttings::long),
+    ("all samples through filters", samples::filters),
+    ("mix_i16", numbers::mix),
+    ("numbers", numbers::any),
+];
+
+pub fn run(session: &mut Session, seed: u64, fixed: bool, timed: bool) {
+    let mut random = Random::new(seed);
+    let families = if fixed { FIXED.iter() } else { [].iter() };
+    for (name, family) in families.chain(&SEEDED) {
+        let start = std::time::Instant::now();
+        let answers = session.tally.answers;
+        session.family = name;
+        family(session, &mut random);
+        session.run();
+        session.designs.clear();
+        if timed {
+            println!("{name}: {} answers, {:.1} s", session.tally.answers - answers, start.elapsed().as_secs_f32());
+        }
+    }
+}
+
+/// Opens a chain of so many stages of any kinds.
+fn open_any(session: &mut Session, random: &mut Random, stages: usize) -> Recipe {
+    let recipe = recipe::any(random, stages, &mut session.designs);
+    session.open_recipe(&recipe);
+    recipe
+}
+
+/// A block in the chain's format, with halves of the lengths given and any contents.
+fn block_over(session: &mut Session, random: &mut Random, sound: &[u8], lengths: [usize; 2]) -> BlockAnswer {
+    let halves = lengths.map(|length| random.bytes(length));
+    let timestamp = if random.one_in(8) { u64::MAX } else { random.next() };
+    session.block(Block { format: session.chain.format, timestamp, sound, halves: [&halves[0], &halves[1]] })
+}
+
+/// Half of what `scratch_bytes` says, as far as a script can lend it.
+fn ample_half(session: &mut Session, length: usize) -> usize {
+    session.chain.scratch_bytes(length as u64).map_or(length, |figure| (figure as usize / 2).min(LONGEST))
+}
+
+/// A block with halves that suffice.
+fn ample_block(session: &mut Session, random: &mut Random, sound: &[u8]) -> BlockAnswer {
+    let half = ample_half(session, sound.len());
+    let lengths = [half, half].map(|half| (half + random.choice(&[0, 0, 1, 2, 7])).min(LONGEST));
+    block_over(session, random, sound, lengths)
+}
+
+/// At most so many frames that a script can lend the halves.
+fn frames_that_fit(session: &mut Session, wanted: usize) -> usize {
+    let frame = session.chain.format.frame();
+    let mut frames = wanted.clamp(1, MOST_FRAMES);
+    while frames > 1 && session.chain.scratch_bytes((frames * frame) as u64).is_ok_and(|figure| figure > 2 * LONGEST as u64) {
+        frames /= 2;
+    }
+    frames
+}
+
+/// Sound of so many frames in the chain's format, fewer where they do not fit.
+fn sound_of(session: &mut Session, random: &mut Random, frames: usize) -> Vec<u8> {
+    let frames = frames_that_fit(session, frames);
+    random.sound(frames * session.chain.format.frame())
+}
+
+/// A block of so many frames, or as many as fit, with halves that suffice.
+fn feed(session: &mut Session, random: &mut Random, frames: usize) -> BlockAnswer {
+    let sound = sound_of(session, random, frames);
+    ample_block(session, random, &sound)
+}
+
+/// Mostly short, sometimes at the limits.
+fn any_frames(random: &mut Random) -> usize {
+    match random.below(40) {
+        0 => random.choice(&[8_191, 8_192]),
+        1..4 => 1 + random.below(2_000),
+        4..10 => random.choice(&[1, 2, 3]),
+        _ => 1 + random.below(70),
+    }
+}

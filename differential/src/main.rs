@@ -1,0 +1,74 @@
+//! The differential run: scripts for the program `replay`, and what the unchanged source says every answer must be.
+//!
+//!     differential REPLAY               compares
+//!     differential REPLAY --long N      with the cases of N seeds
+//!     differential REPLAY --times       says what each family took and which answers were reached
+//!     differential --sample DIR         writes a sample of script and answers as DIR/stdin and DIR/stdout
+
+mod differences;
+mod families;
+mod model;
+mod protocol;
+mod random;
+mod recipe;
+mod report;
+mod session;
+mod source;
+
+use random::Random;
+use session::Session;
+use std::path::PathBuf;
+
+const SEED: u64 = 1;
+
+/// With a comma before every third figure from the right.
+fn grouped(number: u64) -> String {
+    let figures = number.to_string();
+    let mut out = String::new();
+    for (i, figure) in figures.chars().enumerate() {
+        if i > 0 && (figures.len() - i).is_multiple_of(3) {
+            out.push(',');
+        }
+        out.push(figure);
+    }
+    out
+}
+
+fn compare(replay: PathBuf, rounds: u64, timed: bool) {
+    differences::check();
+    let mut session = Session::new(Some(replay));
+    for round in 0..rounds {
+        families::run(&mut session, SEED + round, round == 0, timed);
+    }
+    if timed {
+        for ((command, number, outcome), answers) in &session.reached {
+            let name = protocol::COMMANDS[usize::from(*command) - 1].name;
+            println!("{name}, number {number}, outcome {outcome}: {}", grouped(*answers));
+        }
+    }
+    println!("differential: {} answers, {} bytes, 0 differ", grouped(session.tally.answers), grouped(session.tally.bytes));
+}
+
+fn write_sample(folder: PathBuf) -> std::io::Result<()> {
+    let mut session = Session::new(None);
+    families::sample::gather(&mut session, &mut Random::new(SEED));
+    std::fs::write(folder.join("stdin"), &session.script)?;
+    std::fs::write(folder.join("stdout"), &session.answers)?;
+    println!("{} answers, {} + {} bytes", session.calls.len(), session.script.len(), session.answers.len());
+    Ok(())
+}
+
+fn main() {
+    let arguments: Vec<String> = std::env::args().skip(1).collect();
+    let words: Vec<&str> = arguments.iter().map(String::as_str).collect();
+    match words[..] {
+        ["--sample", folder] => write_sample(folder.into()).expect("the sample cannot be written"),
+        [replay] => compare(replay.into(), 1, false),
+        [replay, "--times"] => compare(replay.into(), 1, true),
+        [replay, "--long", rounds] => compare(replay.into(), rounds.parse().expect("--long takes a number"), false),
+        _ => {
+            eprintln!("usage: differential REPLAY [--long N | --times], or differential --sample DIR");
+            std::process::exit(2);
+        }
+    }
+}

@@ -1,0 +1,180 @@
+//! The unchanged Rust, run on one call: stages that can be cloned, and buffers at even and at odd addresses.
+
+use oracle::elements::{Biquad, DcBlock, Gain, LinearResampler, MonoToStereo, StereoToMono};
+use oracle::esp_core::error::{Error, Result};
+use oracle::esp_core::pcm::{PcmBlock, PcmFormat, SampleFormat};
+use oracle::pipeline::{Element, Pipeline};
+
+#[derive(Clone)]
+pub enum Stage {
+    Gain(Gain),
+    MonoToStereo(MonoToStereo),
+    StereoToMono(StereoToMono),
+    Resample(LinearResampler),
+    DcBlock(DcBlock),
+    Biquad(Biquad),
+}
+
+impl Stage {
+    pub fn element(&mut self) -> &mut dyn Element {
+        match self {
+            Stage::Gain(stage) => stage,
+            Stage::MonoToStereo(stage) => stage,
+            Stage::StereoToMono(stage) => stage,
+            Stage::Resample(stage) => stage,
+            Stage::DcBlock(stage) => stage,
+            Stage::Biquad(stage) => stage,
+        }
+    }
+}
+
+/// A rate and a channel count of 16-bit samples.
+#[derive(Debug, Clone, Copy, PartialEq, Eq)]
+pub struct Format {
+    pub rate: u32,
+    pub channels: u16,
+}
+
+impl Format {
+    pub fn frame(self) -> usize {
+        2 * usize::from(self.channels)
+    }
+
+    pub fn pcm(self) -> PcmFormat {
+        PcmFormat { sample_rate_hz: self.rate, channels: self.channels, sample: SampleFormat::I16 }
+    }
+}
+
+impl From<PcmFormat> for Format {
+    fn from(pcm: PcmFormat) -> Self {
+        Format { rate: pcm.sample_rate_hz, channels: pcm.channels }
+    }
+}
+
+/// Document 01's number and needed of an error of the Rust.
+pub fn refusal(error: Error) -> (u16, u64) {
+    match error {
+        Error::InvalidFormat => (1, 0),
+        Error::Unsupported => (2, 0),
+        Error::BufferTooSmall { needed } => (3, needed as u64),
+        Error::InvalidGeometry => (4, 0),
+    }
+}
+
+/// Where a buffer starts: at an address that an i16 may have, or one byte off.
+#[derive(Debug, Clone, Copy, PartialEq, Eq)]
+pub enum Address {
+    Even,
+    Odd,
+}
+
+pub const ADDRESSES: [Address; 2] = [Address::Even, Address::Odd];
+
+/// Bytes at an address of the parity asked for.
+pub struct Buffer {
+    bytes: Vec<u8>,
+    start: usize,
+}
+
+impl Buffer {
+    pub fn new(parts: &[&[u8]], address: Address) -> Self {
+        let length: usize = parts.iter().map(|part| part.len()).sum();
+        let mut bytes = Vec::with_capacity(length + 1);
+        let start = (bytes.as_ptr() as usize ^ (address == Address::Odd) as usize) & 1;
+        bytes.resize(start, 0);
+        parts.iter().for_each(|part| bytes.extend_from_slice(part));
+        Buffer { bytes, start }
+    }
+
+    pub fn get(&self) -> &[u8] {
+        &self.bytes[self.start..]
+    }
+
+    pub fn get_mut(&mut self) -> &mut [u8] {
+        &mut self.bytes[self.start..]
+    }
+}
+
+fn pipeline_of<const N: usize>(stages: &mut [Stage]) -> Pipeline<'_, N> {
+    let mut elements = stages.iter_mut().map(Stage::element);
+    Pipeline::new(std::array::from_fn(|_| elements.next().unwrap()))
+}
+
+/// The Rust's pipeline over as many stages as there are.
+macro_rules! with_pipeline {
+    ($stages:expr, $pipeline:ident => $body:expr) => {
+        with_pipeline!($stages, $pipeline => $body, 0 1 2 3 4 5 6 7 8)
+    };
+    ($stages:expr, $pipeline:ident => $body:expr, $($count:literal)*) => {
+        match $stages.len() {
+            $($count => {
+                #[allow(unused_mut)]
+                let mut $pipeline = pipeline_of::<$count>($stages);
+                $body
+            })*
+            _ => unreachable!("at most eight stages"),
+        }
+    };
+}
+
+/// A block that the Rust gave back.
+#[derive(Debug, Clone, PartialEq)]
+pub struct Sound {
+    pub format: Format,
+    pub timestamp: u64,
+    pub half: u8,
+    pub bytes: Vec<u8>,
+}
+
+/// What the Rust answered to a block, the halves and counters after it, and the stages.
+pub struct Ran {
+    pub answer: Result<Option<Sound>>,
+    pub halves: [Vec<u8>; 2],
+    pub counters: [u64; 2],
+    pub stages: Vec<Stage>,
+}
+
+/// A block as its caller brings it.
+#[derive(Clone, Copy)]
+pub struct Block<'a> {
+    pub format: Format,
+    pub timestamp: u64,
+    pub sound: &'a [u8],
+    pub halves: [&'a [u8]; 2],
+}
+
+/// Runs a block through clones of the stages, over a scratch of twice the shorter half.
+pub fn process(stages: &[Stage], counters: [u64; 2], block: Block, address: Address) -> Ran {
+    let half = block.halves[0].len().min(block.halves[1].len());
+    let input = Buffer::new(&[block.sound], address);
+    let mut buffer = Buffer::new(&[&block.halves[0][..half], &block.halves[1][..half]], address);
+    let scratch = buffer.get_mut();
+    let start = scratch.as_ptr() as usize;
+    let mut stages = stages.to_vec();
+    let (answer, counters) = with_pipeline!(&mut stages, pipeline => {
+        [pipeline.blocks, pipeline.empty_blocks] = counters;
+        let answer = PcmBlock::new(block.format.pcm(), block.timestamp, input.get()).and_then(|input| pipeline.process(input, scratch));
+        let sound = answer.map(|sound| sound.map(|sound| Sound {
+            format: sound.format.into(),
+            timestamp: sound.timestamp,
+            half: (sound.data.as_ptr() as usize - start >= half) as u8,
+            bytes: sound.data.to_vec(),
+        }));
+        (sound, [pipeline.blocks, pipeline.empty_blocks])
+    });
+    let (a, b) = buffer.get().split_at(half);
+    let after = |written: &[u8], lent: &[u8]| [written, &lent[half..]].concat();
+    Ran { answer, halves: [after(a, block.halves[0]), after(b, block.halves[1])], counters, stages }
+}
+
+pub fn reset(stages: &mut [Stage]) {
+    with_pipeline!(stages, pipeline => pipeline.reset());
+}
+
+pub fn scratch_bytes(stages: &mut [Stage], format: Format, length: usize) -> Result<usize> {
+    with_pipeline!(stages, pipeline => pipeline.scratch_bytes(format.pcm(), length))
+}
+
+pub fn output_format(stages: &mut [Stage], format: Format) -> Result<Format> {
+    with_pipeline!(stages, pipeline => pipeline.output_format(format.pcm())).map(Format::from)
+}
