@@ -1,11 +1,9 @@
 // Each command: its fields, the call, its answer. False, or a step that is not ok, where the script ends inside it.
+ghost use Prim.Native.Nat.{_+_, _<_};
+ghost use lib.ListN.{length};
 use crate::Step;
 use crate::input;
-use crate::input::Byte;
 use crate::input::Count;
-use crate::input::Long;
-use crate::input::Short;
-use crate::input::Word;
 use crate::output;
 use biquad::BiquadKind;
 use biquad::Coefficients;
@@ -26,47 +24,20 @@ use resample::LinearResampler;
 use resample::MaxFrames;
 use resample::NewResampler;
 
-enum FormatField {
-    Value(PcmFormat),
-    End,
+// Rate and channels at the front of a command's fields.
+fn format_of(s: &[u8]) -> PcmFormat
+    requires { ⌜ 5 < length (now s) ⌝ }
+{
+    let rate = words::get_u32(s, 0);
+    let channels = words::get_u16(s, 4);
+    PcmFormat { rate, channels }
 }
 
-enum FloatField {
-    Value(f32),
-    End,
-}
-
-enum DoubleField {
-    Value(f64),
-    End,
-}
-
-fn format_field() -> FormatField {
-    let first = input::read_word();
-    let Word::Value(rate) = first else {
-        return FormatField::End;
-    };
-    let second = input::read_short();
-    let Short::Value(channels) = second else {
-        return FormatField::End;
-    };
-    FormatField::Value(PcmFormat { rate, channels })
-}
-
-fn float_field() -> FloatField {
-    let field = input::read_word();
-    let Word::Value(n) = field else {
-        return FloatField::End;
-    };
-    FloatField::Value(pcm::floats::float_of_bits(n))
-}
-
-fn double_field() -> DoubleField {
-    let field = input::read_long();
-    let Long::Value(n) = field else {
-        return DoubleField::End;
-    };
-    DoubleField::Value(double_of_bits(n))
+// The float in the four bytes from i on.
+fn get_float(s: &[u8], i: usize) -> f32
+    requires { ⌜ i + 3 < length (now s) ⌝ }
+{
+    pcm::floats::float_of_bits(words::get_u32(s, i))
 }
 
 // The binary64 that a pattern stands for.
@@ -95,11 +66,12 @@ fn ended(chain: Pipeline) -> Step {
 }
 
 pub fn open(chain: Pipeline, buf: &mut [u8]) -> Step {
-    let field = format_field();
-    let FormatField::Value(format) = field else {
+    let mut s = [0u8; 6];
+    if !input::filled(&mut s) {
         return ended(chain);
-    };
-    let recipe = input::read_bytes(buf);
+    }
+    let format = format_of(&s);
+    let recipe = input::bytes(buf);
     let Count::Value(n) = recipe else {
         return ended(chain);
     };
@@ -221,15 +193,15 @@ fn block_lent(
     a: &mut [u8],
     b: &mut [u8],
 ) -> Step {
-    let first = input::read_bytes(sound);
+    let first = input::bytes(sound);
     let Count::Value(n) = first else {
         return ended(chain);
     };
-    let second = input::read_bytes(a);
+    let second = input::bytes(a);
     let Count::Value(m) = second else {
         return ended(chain);
     };
-    let third = input::read_bytes(b);
+    let third = input::bytes(b);
     let Count::Value(k) = third else {
         return ended(chain);
     };
@@ -241,14 +213,12 @@ fn block_lent(
 }
 
 pub fn block(chain: Pipeline, sound: &mut [u8], a: &mut [u8], b: &mut [u8]) -> Step {
-    let field = format_field();
-    let FormatField::Value(format) = field else {
+    let mut s = [0u8; 14];
+    if !input::filled(&mut s) {
         return ended(chain);
-    };
-    let time = input::read_long();
-    let Long::Value(timestamp) = time else {
-        return ended(chain);
-    };
+    }
+    let format = format_of(&s);
+    let timestamp = input::get_u64(&s, 6);
     block_lent(chain, format, timestamp, sound, a, b)
 }
 
@@ -278,7 +248,7 @@ fn wrote(chain: Pipeline, room: &mut [u8]) {
 }
 
 pub fn write_recipe(chain: Pipeline, buf: &mut [u8]) -> bool {
-    let room = input::read_bytes(buf);
+    let room = input::bytes(buf);
     let Count::Value(n) = room else {
         return false;
     };
@@ -288,11 +258,11 @@ pub fn write_recipe(chain: Pipeline, buf: &mut [u8]) -> bool {
 }
 
 pub fn scratch_bytes(chain: Pipeline) -> bool {
-    let size = input::read_long();
-    let Long::Value(n) = size else {
+    let mut s = [0u8; 8];
+    if !input::filled(&mut s) {
         return false;
-    };
-    let answer = block::scratch_bytes(chain, n as usize);
+    }
+    let answer = block::scratch_bytes(chain, input::get_u64(&s, 0) as usize);
     match answer {
         Scratch::Bytes(value) => {
             output::short(0);
@@ -324,15 +294,15 @@ fn mixed(a: &[u8], b: &[u8], out: &mut [u8]) {
 }
 
 pub fn mix(a: &mut [u8], b: &mut [u8], out: &mut [u8]) -> bool {
-    let first = input::read_bytes(a);
+    let first = input::bytes(a);
     let Count::Value(n) = first else {
         return false;
     };
-    let second = input::read_bytes(b);
+    let second = input::bytes(b);
     let Count::Value(m) = second else {
         return false;
     };
-    let third = input::read_bytes(out);
+    let third = input::bytes(out);
     let Count::Value(k) = third else {
         return false;
     };
@@ -360,20 +330,12 @@ fn most_frames(made: NewResampler, frames: usize) -> MaxFrames {
 }
 
 pub fn max_output_frames() -> bool {
-    let first = input::read_word();
-    let Word::Value(in_rate) = first else {
+    let mut s = [0u8; 16];
+    if !input::filled(&mut s) {
         return false;
-    };
-    let second = input::read_word();
-    let Word::Value(out_rate) = second else {
-        return false;
-    };
-    let third = input::read_long();
-    let Long::Value(frames) = third else {
-        return false;
-    };
-    let made = LinearResampler::new(in_rate, out_rate);
-    let answer = most_frames(made, frames as usize);
+    }
+    let made = LinearResampler::new(words::get_u32(&s, 0), words::get_u32(&s, 4));
+    let answer = most_frames(made, input::get_u64(&s, 8) as usize);
     match answer {
         MaxFrames::Frames(n) => valued(0, n as u64),
         MaxFrames::Refused(e) => valued(e.number(), 0),
@@ -382,15 +344,11 @@ pub fn max_output_frames() -> bool {
 }
 
 pub fn pole() -> bool {
-    let first = float_field();
-    let FloatField::Value(corner) = first else {
+    let mut s = [0u8; 8];
+    if !input::filled(&mut s) {
         return false;
-    };
-    let second = input::read_word();
-    let Word::Value(rate) = second else {
-        return false;
-    };
-    let answer = DcBlock::pole(corner, rate);
+    }
+    let answer = DcBlock::pole(get_float(&s, 0), words::get_u32(&s, 4));
     match answer {
         PoleAnswer::Pole(r) => {
             output::short(0);
@@ -405,34 +363,18 @@ pub fn pole() -> bool {
 }
 
 enum KindField {
-    Value(BiquadKind),
-    End,
+    Kind(BiquadKind),
+    Unknown,
 }
 
-// The kind of this number and its settings.
-fn kind_field() -> KindField {
-    let first = input::read_byte();
-    let Byte::Value(number) = first else {
-        return KindField::End;
-    };
-    let second = float_field();
-    let FloatField::Value(f0) = second else {
-        return KindField::End;
-    };
-    let third = float_field();
-    let FloatField::Value(q) = third else {
-        return KindField::End;
-    };
-    let fourth = float_field();
-    let FloatField::Value(gain_db) = fourth else {
-        return KindField::End;
-    };
+// The kind of this number.
+fn kind_of(number: u8, f0: f32, q: f32, gain_db: f32) -> KindField {
     match number {
-        1 => KindField::Value(BiquadKind::LowPass { f0, q }),
-        2 => KindField::Value(BiquadKind::HighPass { f0, q }),
-        3 => KindField::Value(BiquadKind::Peak { f0, q, gain_db }),
-        4 => KindField::Value(BiquadKind::Notch { f0, q }),
-        _ => KindField::End,
+        1 => KindField::Kind(BiquadKind::LowPass { f0, q }),
+        2 => KindField::Kind(BiquadKind::HighPass { f0, q }),
+        3 => KindField::Kind(BiquadKind::Peak { f0, q, gain_db }),
+        4 => KindField::Kind(BiquadKind::Notch { f0, q }),
+        _ => KindField::Unknown,
     }
 }
 
@@ -460,65 +402,56 @@ fn designed(answer: DesignAnswer) {
 }
 
 pub fn design() -> bool {
-    let first = kind_field();
-    let KindField::Value(kind) = first else {
+    let mut s = [0u8; 41];
+    if !input::filled(&mut s) {
+        return false;
+    }
+    let field = kind_of(s[0], get_float(&s, 1), get_float(&s, 5), get_float(&s, 9));
+    let KindField::Kind(kind) = field else {
         return false;
     };
-    let second = input::read_word();
-    let Word::Value(rate) = second else {
-        return false;
-    };
-    let third = double_field();
-    let DoubleField::Value(sine) = third else {
-        return false;
-    };
-    let fourth = double_field();
-    let DoubleField::Value(cosine) = fourth else {
-        return false;
-    };
-    let fifth = double_field();
-    let DoubleField::Value(a) = fifth else {
-        return false;
-    };
-    let answer = Coefficients::design(kind, rate, sine, cosine, a);
+    let sine = double_of_bits(input::get_u64(&s, 17));
+    let cosine = double_of_bits(input::get_u64(&s, 25));
+    let a = double_of_bits(input::get_u64(&s, 33));
+    let answer = Coefficients::design(kind, words::get_u32(&s, 13), sine, cosine, a);
     designed(answer);
     true
 }
 
 pub fn from_q15() -> bool {
-    let field = input::read_word();
-    let Word::Value(n) = field else {
+    let mut s = [0u8; 4];
+    if !input::filled(&mut s) {
         return false;
-    };
-    let kept = Gain::from_q15(words::signed(n));
+    }
+    let kept = Gain::from_q15(words::signed(words::get_u32(&s, 0)));
     output::word(words::bits(kept.q15()));
     true
 }
 
 pub fn linear() -> bool {
-    let field = float_field();
-    let FloatField::Value(factor) = field else {
+    let mut s = [0u8; 4];
+    if !input::filled(&mut s) {
         return false;
-    };
-    let made = Gain::linear(factor);
+    }
+    let made = Gain::linear(get_float(&s, 0));
     output::word(words::bits(made.q15()));
     true
 }
 
 pub fn round_sat16() -> bool {
-    let field = float_field();
-    let FloatField::Value(x) = field else {
+    let mut s = [0u8; 4];
+    if !input::filled(&mut s) {
         return false;
-    };
-    output::sample(pcm::round_sat16(x));
+    }
+    output::sample(pcm::round_sat16(get_float(&s, 0)));
     true
 }
 
 pub fn sat16() -> bool {
-    let field = input::read_word();
-    let Word::Value(n) = field else {
+    let mut s = [0u8; 4];
+    if !input::filled(&mut s) {
         return false;
-    };
-    output::sample(pcm::sat16(words::signed(n)));
+    }
+    output::sample(pcm::sat16(words::signed(words::get_u32(&s, 0))));
     true
 }

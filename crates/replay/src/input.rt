@@ -1,69 +1,27 @@
-// The fields of a command, read from standard input, low byte first. Each is a value, or the script's end inside it.
+// The fields of a command, read from standard input, low byte first.
+ghost use Prim.Native.Nat.{_+_, _<_};
+ghost use lib.ListN.{length};
 ghost use Rattle.io.specs.Counts.{Counts};
 use recipe::words;
 
-pub enum Byte {
-    Value(u8),
-    End,
-}
-
-pub enum Short {
-    Value(u16),
-    End,
-}
-
-pub enum Word {
-    Value(u32),
-    End,
-}
-
-pub enum Long {
-    Value(u64),
-    End,
-}
-
-// How many bytes stand at the front of a buffer.
+// How many bytes stand at the front of a buffer; the end where the script ends inside them.
 pub enum Count {
     Value(usize),
     End,
 }
 
-pub fn read_byte() -> Byte {
-    let mut s = [0u8; 1];
-    let got = io::read_full(0, &mut s);
-    if got < 1 {
-        return Byte::End;
-    }
-    Byte::Value(s[0])
+// Fills buf; false where the script ends before that.
+pub fn filled(buf: &mut [u8]) -> bool {
+    io::read_full(0, buf) == buf.len()
 }
 
-pub fn read_short() -> Short {
-    let mut s = [0u8; 2];
-    let got = io::read_full(0, &mut s);
-    if got < 2 {
-        return Short::End;
-    }
-    Short::Value(words::get_u16(&s, 0))
-}
-
-pub fn read_word() -> Word {
-    let mut s = [0u8; 4];
-    let got = io::read_full(0, &mut s);
-    if got < 4 {
-        return Word::End;
-    }
-    Word::Value(words::get_u32(&s, 0))
-}
-
-pub fn read_long() -> Long {
-    let mut s = [0u8; 8];
-    let got = io::read_full(0, &mut s);
-    if got < 8 {
-        return Long::End;
-    }
-    let low = words::get_u32(&s, 0);
-    let high = words::get_u32(&s, 4);
-    Long::Value((low as u64) + 4294967296 * (high as u64))
+// The number in the eight bytes from i on.
+pub fn get_u64(s: &[u8], i: usize) -> u64
+    requires { ⌜ i + 7 < length (now s) ⌝ }
+{
+    let low = words::get_u32(s, i);
+    let high = words::get_u32(s, i + 4);
+    (low as u64) + 4294967296 * (high as u64)
 }
 
 // n where buf holds so many bytes, else 0.
@@ -74,19 +32,18 @@ pub fn held(n: usize, buf: &[u8]) -> usize
 }
 
 // A length, and so many bytes at the front of buf. More than it holds counts as the end.
-pub fn read_bytes(buf: &mut [u8]) -> Count {
-    let length = read_word();
-    let Word::Value(l) = length else {
+pub fn bytes(buf: &mut [u8]) -> Count {
+    let mut s = [0u8; 4];
+    if !filled(&mut s) {
         return Count::End;
-    };
-    let wanted = l as usize;
+    }
+    let wanted = words::get_u32(&s, 0) as usize;
     let n = held(wanted, buf);
     if n < wanted {
         return Count::End;
     }
-    let got = io::read_full(0, &mut buf[..n]);
-    if got < n {
-        return Count::End;
+    if filled(&mut buf[..n]) {
+        return Count::Value(n);
     }
-    Count::Value(n)
+    Count::End
 }

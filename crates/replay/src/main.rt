@@ -1,5 +1,4 @@
 // The public calls, driven by a script: reads calls from standard input and writes what each answered.
-use input::Byte;
 use pcm::PcmFormat;
 use pipeline::Pipeline;
 
@@ -44,6 +43,19 @@ fn other(code: u8, chain: Pipeline, sound: &mut [u8], a: &mut [u8], b: &mut [u8]
     }
 }
 
+// The next command and its answer; not ok after the last, or after the mark of a script that goes no further.
+fn next(chain: Pipeline, sound: &mut [u8], a: &mut [u8], b: &mut [u8]) -> Step {
+    let mut code = [0u8; 1];
+    if !input::filled(&mut code) {
+        return Step { ok: false, chain };
+    }
+    let step = run(code[0], chain, sound, a, b);
+    if !step.ok {
+        output::end_mark();
+    }
+    step
+}
+
 // The script's commands in turn. A proved loop has to end, so it counts down from a number that no script uses up.
 fn replay(sound: &mut [u8], a: &mut [u8], b: &mut [u8]) {
     let opened = Pipeline::open(
@@ -56,16 +68,11 @@ fn replay(sound: &mut [u8], a: &mut [u8], b: &mut [u8]) {
     let mut chain = opened.chain;
     let mut turns = u64::MAX;
     while turns > 0 {
-        let command = input::read_byte();
-        let Byte::Value(code) = command else {
-            return;
-        };
-        let next = run(code, chain, sound, a, b);
-        if !next.ok {
-            output::end_mark();
+        let step = next(chain, sound, a, b);
+        if !step.ok {
             return;
         }
-        chain = next.chain;
+        chain = step.chain;
         turns -= 1;
     }
 }

@@ -1,27 +1,27 @@
 // The fields of an answer, written to standard output, low byte first.
+use recipe::words;
+
 pub fn byte(x: u8) {
     io::write_all(1, &[x]);
 }
 
 pub fn short(x: u16) {
-    io::write_all(1, &[(x % 256) as u8, (x / 256) as u8]);
+    let mut s = [0u8; 2];
+    words::put_u16(&mut s, 0, x);
+    io::write_all(1, &s);
 }
 
 pub fn word(x: u32) {
-    io::write_all(
-        1,
-        &[
-            (x % 256) as u8,
-            (x / 256 % 256) as u8,
-            (x / 65536 % 256) as u8,
-            (x / 16777216) as u8,
-        ],
-    );
+    let mut s = [0u8; 4];
+    words::put_u32(&mut s, 0, x);
+    io::write_all(1, &s);
 }
 
 pub fn long(x: u64) {
-    word((x % 4294967296) as u32);
-    word((x / 4294967296) as u32);
+    let mut s = [0u8; 8];
+    words::put_u32(&mut s, 0, (x % 4294967296) as u32);
+    words::put_u32(&mut s, 4, (x / 4294967296) as u32);
+    io::write_all(1, &s);
 }
 
 // A length, of which four bytes are written.
