@@ -30,14 +30,17 @@ abbrev pub halfNumber : Half → ℕ
 halfNumber half.A = 0
 halfNumber half.B = 1
 
--- outcome: 0 refused, 1 sound, 2 nothing yet; zero where there is no value. A refused call gives back the chain that was given
+-- outcome: 0 refused, 1 sound, 2 nothing yet; zero where there is no value
+abbrev pub silent : ℕ → ℕ → ℕ → Chain → BlockResult
+silent number outcome needed chain =
+    record { number = number; outcome = outcome; needed = needed; rate = 0; channels = 0; timestamp = 0; half = 0; len = 0; chain = chain }
+
+-- a refused call gives back the chain that was given
 abbrev pub blockResult : Chain → Answer → Chain → BlockResult
 blockResult given (answer.Output f timestamp side len) next =
     record { number = 0; outcome = 1; needed = 0; rate = f .rate; channels = f .channels; timestamp = timestamp; half = halfNumber side; len = len; chain = next }
-blockResult given answer.NothingYet next =
-    record { number = 0; outcome = 2; needed = 0; rate = 0; channels = 0; timestamp = 0; half = 0; len = 0; chain = next }
-blockResult given (answer.Refused e) next =
-    record { number = refusal e .number; outcome = 0; needed = refusal e .needed; rate = 0; channels = 0; timestamp = 0; half = 0; len = 0; chain = given }
+blockResult given answer.NothingYet next = silent 0 2 0 next
+blockResult given (answer.Refused e) next = silent (refusal e .number) 0 (refusal e .needed) given
 
 -- the answer, and both halves afterwards
 pub record BlockOutcome : Type 0 where

@@ -5,7 +5,7 @@ ghost use Rattle.pipeline.specs.Reset.{outputFormat, resetCall};
 ghost use Rattle.pipeline.specs.WritingBack.{writeCall};
 ghost use Rattle.block.specs.BlockCall.{blockCall, scratchBytes};
 ghost use Rattle.muzgleur.specs.FlatChain.{flatChain, chainOf};
-ghost use Rattle.muzgleur.specs.Results.{openResult, halfNumber, blockResult, blockOutcome, formatOf, scratchResult, writeResult};
+ghost use Rattle.muzgleur.specs.Results.{openResult, halfNumber, silent, blockResult, blockOutcome, formatOf, scratchResult, writeResult};
 use block::Answer;
 use block::Half;
 use block::Scratch;
@@ -80,6 +80,23 @@ fn half_number(half: Half) -> u8
     }
 }
 
+// A call that brought no sound.
+fn silent(number: u16, outcome: u8, needed: usize, chain: Chain) -> BlockResult
+    ensures { λ r. ⌜ r ≡ silent number outcome needed chain ⌝ }
+{
+    BlockResult {
+        number,
+        outcome,
+        needed,
+        rate: 0,
+        channels: 0,
+        timestamp: 0,
+        half: 0,
+        len: 0,
+        chain,
+    }
+}
+
 // The numbers of an answer; `next` is the chain after it.
 fn block_result(chain: Chain, answer: Answer, next: Chain) -> BlockResult
     ensures { λ r. ⌜ r ≡ blockResult chain answer next ⌝ }
@@ -101,28 +118,8 @@ fn block_result(chain: Chain, answer: Answer, next: Chain) -> BlockResult
             len,
             chain: next,
         },
-        Answer::NothingYet => BlockResult {
-            number: 0,
-            outcome: 2,
-            needed: 0,
-            rate: 0,
-            channels: 0,
-            timestamp: 0,
-            half: 0,
-            len: 0,
-            chain: next,
-        },
-        Answer::Refused(e) => BlockResult {
-            number: e.number(),
-            outcome: 0,
-            needed: e.needed(),
-            rate: 0,
-            channels: 0,
-            timestamp: 0,
-            half: 0,
-            len: 0,
-            chain,
-        },
+        Answer::NothingYet => silent(0, 2, 0, next),
+        Answer::Refused(e) => silent(e.number(), 0, e.needed(), chain),
     }
 }
 
