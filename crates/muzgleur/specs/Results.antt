@@ -1,8 +1,15 @@
--- What the exported calls answer: number and values for each case of the library's answers (document 01, 'The questions'). Definitions only.
+-- What the exported calls answer: number and values for each case of the library's answers (document 01, 'The questions'). Assumes nothing.
+use mathlib.Core.Path.{_≡_, refl}
+use mathlib.Core.Bool.{Bool, true, false, cond}
 use mathlib.Core.List.{List}
 use Prim.Native.Nat.{ℕ}
+use lib.Dec.{eqb}
+use lib.ListN.{length}
 use Rattle.pcm.specs.declared.PcmFormat.{PcmFormat}
+use Rattle.pcm.specs.declared.Verdict.{Verdict}
+use Rattle.pcm.specs.declared.Verdict.the-variants.{Accepted, Refused}
 use Rattle.pcm.specs.Refusals.{refusal, numberOf}
+use Rattle.pipeline.specs.declared.Pipeline.{Pipeline}
 use Rattle.pipeline.specs.declared.Opened.{Opened}
 use Rattle.pipeline.specs.declared.WriteAnswer.{WriteAnswer}
 use Rattle.pipeline.specs.declared.WriteAnswer.the-variants as write
@@ -12,14 +19,14 @@ use Rattle.block.specs.declared.Answer.{Answer}
 use Rattle.block.specs.declared.Answer.the-variants as answer
 use Rattle.block.specs.declared.Scratch.{Scratch}
 use Rattle.block.specs.declared.Scratch.the-variants as scratch
-use Rattle.block.specs.BlockCall.{Result}
+use Rattle.block.specs.BlockCall.{Result, blockCall, concluded, accepted, verdictOf, shorter, outputBytes}
 use Rattle.muzgleur.specs.declared.flat.Chain.{Chain}
 use Rattle.muzgleur.specs.declared.OpenResult.{OpenResult}
 use Rattle.muzgleur.specs.declared.BlockResult.{BlockResult}
 use Rattle.muzgleur.specs.declared.Format.{Format}
 use Rattle.muzgleur.specs.declared.ScratchResult.{ScratchResult}
 use Rattle.muzgleur.specs.declared.WriteResult.{WriteResult}
-use Rattle.muzgleur.specs.FlatChain.{flatChain}
+use Rattle.muzgleur.specs.FlatChain.{flatChain, chainOf, chain-of-flat}
 
 -- 0 or the refusal's number, and the chain
 abbrev pub openResult : Opened → OpenResult
@@ -61,3 +68,21 @@ scratchResult (scratch.Refused e) = record { number = refusal e .number; value =
 abbrev pub writeResult : WriteAnswer → WriteResult
 writeResult (write.Written n) = record { number = 0; needed = 0; len = n }
 writeResult (write.Refused e) = record { number = refusal e .number; needed = refusal e .needed; len = 0 }
+
+-- ---- law: the chain that comes back stands for the chain after the call, whatever the answer
+module _ (c : Chain) (format : PcmFormat) (timestamp : ℕ) (sound a b : List ℕ) where
+  abbrev after : Verdict → Result
+  after v = concluded v (chainOf c) timestamp sound (record { a = a; b = b })
+
+  came-back : (k : Pipeline) (f : PcmFormat) (side : Half) (len : ℕ) (empty : Bool) → chainOf (blockResult c (cond empty answer.NothingYet (answer.Output f timestamp side len)) (flatChain k) .chain) ≡ k
+  came-back k f side len true = chain-of-flat k
+  came-back k f side len false = chain-of-flat k
+
+  by-verdict : (v : Verdict) → chainOf (blockOutcome c (after v) .result .chain) ≡ after v .chain
+  unfolding accepted
+  by-verdict (Refused e) = refl
+  by-verdict Accepted = came-back _ _ _ _ (eqb (outputBytes (chainOf c) sound) 0)
+
+  pub chain-after-block : chainOf (blockOutcome c (blockCall (chainOf c) format timestamp sound a b) .result .chain) ≡ blockCall (chainOf c) format timestamp sound a b .chain
+  unfolding blockCall
+  chain-after-block = by-verdict (verdictOf (chainOf c) format (length sound) (shorter a b))

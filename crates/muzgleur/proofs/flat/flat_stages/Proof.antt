@@ -9,19 +9,17 @@ use Rattle.muzgleur.proofs.flat.flat_stages.Tie as tie
 
 returns : tie.Need-returns
 returns c =
-    let s = c .before .before .before .before .before .before .before .before .before .before .before .before .before .before .before .before in
-    let n : length (s .args .t1) ≡ 8 = search (unmapped, needs) in
-    rw (
-      c .before .before .before .before .before .before .before .before .before .before .before .before .before .before .flat-stage .ensures,
-      c .before .before .before .before .before .before .before .before .before .before .before .before .flat-stage2 .ensures,
-      c .before .before .before .before .before .before .before .before .before .before .flat-stage3 .ensures,
-      c .before .before .before .before .before .before .before .before .flat-stage4 .ensures,
-      c .before .before .before .before .before .before .flat-stage5 .ensures,
-      c .before .before .before .before .flat-stage6 .ensures,
-      c .before .before .flat-stage7 .ensures,
-      c .flat-stage8 .ensures,
-    )
-    (sym (eight flatStage (s .args .t1) _ n))
+    let at7 = c .before .before in
+    let at6 = at7 .before .before in
+    let at5 = at6 .before .before in
+    let at4 = at5 .before .before in
+    let at3 = at4 .before .before in
+    let at2 = at3 .before .before in
+    let at1 = at2 .before .before in
+    let start = at1 .before .before in
+    let n : length (start .args .t1) ≡ 8 = search (unmapped, needs) in
+    rw (at1 .flat-stage .ensures, at2 .flat-stage2 .ensures, at3 .flat-stage3 .ensures, at4 .flat-stage4 .ensures, at5 .flat-stage5 .ensures, at6 .flat-stage6 .ensures, at7 .flat-stage7 .ensures, c .flat-stage8 .ensures)
+    (sym (eight flatStage (start .args .t1) _ n))
 
 pub flat-stages-spec : {M : Type 1} → statement M
 flat-stages-spec = tie.close (tie.spec
