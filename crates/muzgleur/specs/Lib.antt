@@ -1,0 +1,2 @@
+pub mod FlatChain
+pub mod Results

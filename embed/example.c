@@ -1,0 +1,94 @@
+/* A chain for 48,000 Hz mono: resample to 16,000 Hz, DC block at 20 Hz, low-pass at 3,000 Hz (q 0.707), gain 1.5.
+ * Runs blocks of a made-up sound through it and prints the frames that come out; the output goes to the file named by the
+ * first argument, if there is one. */
+#include "muzgleur.h"
+
+#include <stdio.h>
+#include <string.h>
+
+static const uint8_t RECIPE[] = {
+    0x0A, 0x00, 0x04, 0x00, 0x80, 0xBB, 0x00, 0x00, 0x80, 0x3E, 0x00, 0x00, /* resample 48,000 to 16,000 */
+    0x06, 0x00, 0x05, 0x00, 0x00, 0x00, 0xA0, 0x41,                         /* DC block 20 Hz */
+    0x1A, 0x00, 0x06, 0x00, 0x80, 0x3E, 0x00, 0x00,                         /* biquad at 16,000: */
+    0xE1, 0x29, 0x3F, 0x3E, 0xE1, 0x29, 0xBF, 0x3E, 0xE1, 0x29, 0x3F, 0x3E, /*   b0, b1, b2 */
+    0x98, 0x02, 0xED, 0xBE, 0xB4, 0xAC, 0x56, 0x3E,                         /*   a1, a2 */
+    0x06, 0x00, 0x01, 0x00, 0x00, 0xC0, 0x00, 0x00,                         /* gain 49,152 / 32,768 */
+};
+
+enum { MOST_FRAMES = 480, MOST_BYTES = 2 * MOST_FRAMES, ROOM = 4096 };
+
+/* A sawtooth of 441 frames beside an offset. */
+static void made_up(uint8_t *sound, size_t frames, uint64_t from) {
+    for (size_t i = 0; i < frames; i++) {
+        uint16_t sample = (uint16_t)(3000 + (int)((from + i) % 441 * 40) - 8820);
+        sound[2 * i] = (uint8_t)sample;
+        sound[2 * i + 1] = (uint8_t)(sample >> 8);
+    }
+}
+
+static uint8_t sound[MOST_BYTES], a[ROOM / 2], b[ROOM / 2];
+
+/* Blocks cut anyhow; the chain after them. */
+static muzgleur_chain run_blocks(muzgleur_chain chain, FILE *out) {
+    static const size_t frames[] = {480, 480, 1, 479, 1, 1, 480};
+    uint64_t at = 0;
+    for (size_t i = 0; i < sizeof frames / sizeof *frames; i++) {
+        made_up(sound, frames[i], at);
+        muzgleur_block_result done = muzgleur_block(chain, 48000, 1, at, sound, 2 * frames[i], a, sizeof a, b, sizeof b);
+        chain = done.chain;
+        at += frames[i];
+        if (done.outcome == MUZGLEUR_REFUSED) {
+            printf("%3zu frames in, refused: %u, needed %zu\n", frames[i], done.number, done.needed);
+        } else if (done.outcome == MUZGLEUR_NOTHING_YET) {
+            printf("%3zu frames in, nothing yet\n", frames[i]);
+        } else {
+            printf("%3zu frames in, %3zu out in half %c\n", frames[i], done.len / 2, done.half ? 'b' : 'a');
+            if (out) fwrite(done.half ? b : a, 1, done.len, out);
+        }
+    }
+    return chain;
+}
+
+/* Calls that are refused; the chain stays as it was. */
+static void show_refusals(muzgleur_chain chain) {
+    muzgleur_block_result tight = muzgleur_block(chain, 48000, 1, 0, sound, MOST_BYTES, a, 100, b, sizeof b);
+    printf("a half of 100 bytes: refused %u, needed %zu\n", tight.number, tight.needed);
+    muzgleur_block_result odd = muzgleur_block(chain, 48000, 1, 0, sound, 3, a, sizeof a, b, sizeof b);
+    printf("a block of 3 bytes: refused %u\n", odd.number);
+    muzgleur_write_result written = muzgleur_write_recipe(chain, a, 10);
+    printf("a recipe to 10 bytes: refused %u, needed %zu\n", written.number, written.needed);
+}
+
+int main(int argc, char **argv) {
+    muzgleur_open_result opened = muzgleur_open(48000, 1, RECIPE, sizeof RECIPE);
+    if (opened.number != 0) {
+        fprintf(stderr, "opening refused: %u\n", opened.number);
+        return 1;
+    }
+    muzgleur_chain chain = opened.chain;
+    muzgleur_format format = muzgleur_output_format(chain);
+    printf("%zu stages, %u Hz to %u Hz\n", chain.count, chain.rate, format.rate);
+
+    muzgleur_scratch_result scratch = muzgleur_scratch_bytes(chain, MOST_BYTES);
+    if (scratch.number != 0 || scratch.value > ROOM) {
+        fprintf(stderr, "halves too short: refusal %u, %zu bytes wanted\n", scratch.number, scratch.value);
+        return 1;
+    }
+
+    FILE *out = NULL;
+    if (argc > 1 && !(out = fopen(argv[1], "wb"))) {
+        perror(argv[1]);
+        return 1;
+    }
+    chain = run_blocks(chain, out);
+    if (out) fclose(out);
+    show_refusals(chain);
+
+    muzgleur_write_result written = muzgleur_write_recipe(chain, a, sizeof a);
+    bool same = written.len == sizeof RECIPE && memcmp(a, RECIPE, sizeof RECIPE) == 0;
+    printf("recipe written back %s\n", same ? "unchanged" : "otherwise");
+
+    chain = muzgleur_reset(chain);
+    printf("%llu blocks, %llu of them empty\n", (unsigned long long)chain.blocks, (unsigned long long)chain.empty_blocks);
+    return same ? 0 : 1;
+}
