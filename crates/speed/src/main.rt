@@ -137,14 +137,14 @@ fn pass(run: Run, first: bool, size: usize, sound: &[u8], a: &mut [u8], b: &mut 
     Run { chain, tally }
 }
 
-// As many passes as asked for.
+// As many passes as asked for, at least one.
 fn passes(run: Run, times: u32, size: usize, sound: &[u8], a: &mut [u8], b: &mut [u8]) -> Run
     requires { ⌜ 0 < size ⌝ }
 {
-    let mut last = run;
-    let mut i: u32 = 0;
+    let mut last = pass(run, true, size, sound, a, b);
+    let mut i: u32 = 1;
     while i < times {
-        last = pass(last, i == 0, size, sound, a, b);
+        last = pass(last, false, size, sound, a, b);
         i += 1;
     }
     last
