@@ -13,8 +13,8 @@ use std::process::{Command, Stdio};
 use std::time::Instant;
 
 const FRAMES: [u32; 5] = [16, 64, 256, 1_024, 8_192];
-const ROUNDS: usize = 15;
-const ROUND_SECONDS: f64 = 0.25;
+const ROUNDS: usize = 36;
+const ROUND_SECONDS: f64 = 0.1;
 
 /// What a process wrote, and the seconds it took.
 fn timed(mut command: Command, input: &[u8]) -> (String, f64) {
