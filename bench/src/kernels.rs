@@ -3,6 +3,7 @@
 use oracle::elements::Coefficients;
 
 mod raw {
+    #[link(name = "kernels", kind = "static")]
     unsafe extern "C" {
         pub fn gain_block(q15: i32, input: *const u8, len: usize, out: *mut u8, room: usize);
         pub fn mono_to_stereo_block(input: *const u8, len: usize, out: *mut u8, room: usize);

@@ -23,7 +23,7 @@ use Rattle.block.specs.declared.Answer.{Answer}
 use Rattle.block.specs.Chain.{chainOut, chainNext, formatLeaving}
 use Rattle.block.specs.BlockCall.{Halves, Result, put, legal, sameFormat, sizeAsked, verdictOf, halvesVerdict, halvesAfter, passed, stagesOf, shorter, counted, countedChain, answerOf, lastHalf, accepted}
 use Rattle.block.specs.Steps.{ask-yes}
-use Rattle.block.specs.Turns.{Accepts, Passes, outcomeOf}
+use Rattle.block.specs.Turns.{Accepts, Passes, outcomeOf, withStages}
 use Rattle.block.proofs.Asking.{no-stages}
 use Rattle.block.proofs.Reaching.{format-none}
 
@@ -54,11 +54,17 @@ halves-some : (l : List Stage) (xs : List Frame) (block : List ℕ) (h : Halves)
 halves-some [] xs block h k = absurd (let b : ⊥ = omega arith in b)
 halves-some (s ∷ l) xs block h k = refl
 
-pub some-played : (c : Pipeline) (s : List Stage) (f : PcmFormat) (t len : ℕ) (block : List ℕ) (before after : Halves) (o : Outcome)
-    → 0 < length (stagesOf c) → Passes c s f len block before after → o ≡ outcomeOf c s f t len → resulting o after ≡ accepted c t block before
-some-played c s f t len block before after o k p e =
+-- a chain is concluded by its stages, whatever they were before
+moved-is : (c : Pipeline) (s : List Stage) (f : PcmFormat) (t len : ℕ) → outcomeOf (withStages c s) (withStages c s .stages) f t len ≡ outcomeOf c s f t len
+unfolding outcomeOf withStages
+moved-is c s f t len = refl
+
+pub some-played : (c moved : Pipeline) (f : PcmFormat) (t len : ℕ) (block : List ℕ) (before after : Halves) (o : Outcome)
+    → 0 < length (stagesOf c) → Passes c moved f len block before after → o ≡ outcomeOf moved (moved .stages) f t len → resulting o after ≡ accepted c t block before
+some-played c moved f t len block before after o k p e =
     ap₂ resulting
-    (e ∙ ap (λ (l : List Stage). outcomeOf c l f t len) (p .keeps)
+    (e ∙ ap (λ (d : Pipeline). outcomeOf d (d .stages) f t len) (p .keeps)
+    ∙ moved-is c (chainNext (stagesOf c) (framesOf (c .format .channels) block) ++ drop (c .count) (c .stages)) f t len
     ∙ outcome-format c (chainNext (stagesOf c) (framesOf (c .format .channels) block) ++ drop (c .count) (c .stages)) f (formatLeaving (c .format) (stagesOf c)) t len (p .form)
     ∙ ap (outcomeOf c (chainNext (stagesOf c) (framesOf (c .format .channels) block) ++ drop (c .count) (c .stages)) (formatLeaving (c .format) (stagesOf c)) t) (p .size))
     (p .halves ∙ halves-some (stagesOf c) (framesOf (c .format .channels) block) block before k)

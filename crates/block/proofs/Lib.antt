@@ -2,4 +2,6 @@ mod Lengths
 mod Walk
 mod Reaching
 mod Asking
+mod Turning
+mod Moving
 mod Concluding

@@ -36,9 +36,13 @@ pub record Accepts (c : Pipeline) (block a b : List ℕ) : Type 0 where
   pub most : length block / (c .format .channels * 2) ≤ 8192
   pub room : halvesVerdict (c .format) (stagesOf c) (length block) (shorter a b) ≡ Accepted
 
+-- a chain with other stages
+unfoldable pub withStages : Pipeline → List Stage → Pipeline
+withStages c stages = record { stages = stages; count = c .count; format = c .format; blocks = c .blocks; «empty_blocks» = c .«empty_blocks» }
+
 -- what the stages make of an accepted block
-pub record Passes (c : Pipeline) (stages : List Stage) (format : PcmFormat) (len : ℕ) (block : List ℕ) (before after : Halves) : Type 0 where
-  pub keeps : stages ≡ chainNext (stagesOf c) (framesOf (c .format .channels) block) ++ drop (c .count) (c .stages)
+pub record Passes (c moved : Pipeline) (format : PcmFormat) (len : ℕ) (block : List ℕ) (before after : Halves) : Type 0 where
+  pub keeps : moved ≡ withStages c (chainNext (stagesOf c) (framesOf (c .format .channels) block) ++ drop (c .count) (c .stages))
   pub size : len ≡ length (bytesOf (chainOut (stagesOf c) (framesOf (c .format .channels) block)))
   pub form : (len ≡ 0 → ⊥) → format ≡ formatLeaving (c .format) (stagesOf c)
   pub halves : after ≡ passed 0 (stagesOf c) (framesOf (c .format .channels) block) before

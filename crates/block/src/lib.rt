@@ -1,10 +1,11 @@
 // The block call of a chain (pipeline.rs): room asked first, then the stages in turn over two lent halves.
 ghost use mathlib.Core.Path.{_≡_};
-ghost use mathlib.Core.Bool.{true};
+ghost use mathlib.Core.Bool.{true, false};
 ghost use Prim.Native.Nat.{_≤_, _<_};
 ghost use lib.ListN.{length};
 ghost use Rattle.pcm.specs.declared.Verdict.the-variants.{Accepted};
 ghost use Rattle.pcm.specs.Frames.{framesOf};
+ghost use Rattle.stage.specs.Stages.{remembers};
 ghost use Rattle.stage.specs.Rooms.{Served};
 ghost use Rattle.block.specs.BlockCall.{legal, suited, stagesOf, sameFormat, sizeAsked, roomVerdict, verdictOf, counted, lastHalf, accepted, blockCall, larger, largest, scratchBytes, shorterOf, frontOf, outputOf};
 ghost use Rattle.block.specs.Turns.{sourceAt, targetAt, Turns, Accepts, Passes, outcomeOf};
@@ -47,11 +48,10 @@ fn stages_suit(chain: Pipeline) -> bool
     ensures { λ r. ⌜ r ≡ suited (chain .format) (stagesOf chain) ⌝ }
 {
     let count = chain.count;
-    let stages = chain.stages;
     let mut format = chain.format;
     let mut i: usize = 0;
     while i < count {
-        let s = stages[i];
+        let s = chain.stages[i];
         if !stage::stage_suits(format, s) {
             return false;
         }
@@ -112,7 +112,6 @@ fn room_question(chain: Pipeline, frames: usize, shorter: usize) -> Verdict
     ensures { λ r. ⌜ r ≡ roomVerdict (chain .format) (stagesOf chain) frames shorter ⌝ }
 {
     let count = chain.count;
-    let stages = chain.stages;
     let mut format = chain.format;
     let mut n = frames;
     let mut i: usize = 0;
@@ -120,7 +119,7 @@ fn room_question(chain: Pipeline, frames: usize, shorter: usize) -> Verdict
         if n == 0 {
             return Verdict::Accepted;
         }
-        let s = stages[i];
+        let s = chain.stages[i];
         let kind = s.kind;
         let after = stage::format_after(format, kind);
         let room = stage::frames_wanted(kind, n) * after.frame_bytes();
@@ -173,7 +172,7 @@ fn turn(
     a: &mut [u8],
     b: &mut [u8],
 ) -> Applied
-    requires { ⌜ ((i ≡ 0 → ⊥) → n ≤ length (now a)) × (((i ≡ 0 → ⊥) → n ≤ length (now b)) × Served format s (sourceAt i n (now block) (record { a = now a; b = now b })) (targetAt i (record { a = now a; b = now b }))) ⌝ }
+    requires { ⌜ ((i ≡ 0 → ⊥) → n ≤ length (now a)) × (((i ≡ 0 → ⊥) → n ≤ length (now b)) × Served format s (sourceAt i n (now block) (record { a = now a; b = now b })) (targetAt i (record { a = now a; b = now b })) × (remembers (s .kind) ≡ true)) ⌝ }
     ensures { λ r. ⌜ Turns format s (r .stage) (framesOf (format .channels) (sourceAt i n (now (block .entry)) (record { a = now (a .entry); b = now (b .entry) }))) i (r .len) (record { a = now (a .entry); b = now (b .entry) }) (record { a = now (a .exit); b = now (b .exit) }) ⌝ }
 {
     if i == 0 {
@@ -185,42 +184,67 @@ fn turn(
     stage::apply(format, s, &a[..n], b)
 }
 
-// What an accepted block leaves of the stages, with the format and the length of the last stage's output.
+// The same for a stage that remembers nothing: how many bytes it delivered.
+fn plain_turn(
+    format: PcmFormat,
+    s: Stage,
+    i: usize,
+    n: usize,
+    block: &[u8],
+    a: &mut [u8],
+    b: &mut [u8],
+) -> usize
+    requires { ⌜ ((i ≡ 0 → ⊥) → n ≤ length (now a)) × (((i ≡ 0 → ⊥) → n ≤ length (now b)) × Served format s (sourceAt i n (now block) (record { a = now a; b = now b })) (targetAt i (record { a = now a; b = now b })) × (remembers (s .kind) ≡ false)) ⌝ }
+    ensures { λ r. ⌜ Turns format s s (framesOf (format .channels) (sourceAt i n (now (block .entry)) (record { a = now (a .entry); b = now (b .entry) }))) i r (record { a = now (a .entry); b = now (b .entry) }) (record { a = now (a .exit); b = now (b .exit) }) ⌝ }
+{
+    if i == 0 {
+        return stage::apply_plain(format, s, block, a);
+    }
+    if i % 2 == 0 {
+        return stage::apply_plain(format, s, &b[..n], a);
+    }
+    stage::apply_plain(format, s, &a[..n], b)
+}
+
+// The chain whose stages an accepted block moved, with the format and the length of the last stage's output.
 struct Passed {
-    stages: [Stage; 8],
+    chain: Pipeline,
     format: PcmFormat,
     len: usize,
 }
 
-// Every stage in turn, until one delivers nothing.
-fn pass_stages(chain: Pipeline, block: &[u8], a: &mut [u8], b: &mut [u8]) -> Passed
+// Every stage in turn, until one delivers nothing. A stage that remembers nothing is not stored again.
+fn pass_stages(mut chain: Pipeline, block: &[u8], a: &mut [u8], b: &mut [u8]) -> Passed
     requires { ⌜ Accepts chain (now block) (now a) (now b) × (0 < chain .count) ⌝ }
-    ensures { λ r. ⌜ Passes chain (r .stages) (r .format) (r .len) (now (block .entry)) (record { a = now (a .entry); b = now (b .entry) }) (record { a = now (a .exit); b = now (b .exit) }) ⌝ }
+    ensures { λ r. ⌜ Passes chain (r .chain) (r .format) (r .len) (now (block .entry)) (record { a = now (a .entry); b = now (b .entry) }) (record { a = now (a .exit); b = now (b .exit) }) ⌝ }
 {
     let count = chain.count;
-    let mut stages = chain.stages;
     let mut format = chain.format;
     let mut bytes = block.len();
     let mut i: usize = 0;
     while i < count {
-        let s = stages[i];
-        let t = turn(format, s, i, bytes, block, a, b);
-        let next = t.stage;
-        stages[i] = next;
-        bytes = t.len;
+        let s = chain.stages[i];
         let kind = s.kind;
+        if stage::remembers(kind) {
+            let t = turn(format, s, i, bytes, block, a, b);
+            let next = t.stage;
+            chain.stages[i] = next;
+            bytes = t.len;
+        } else {
+            bytes = plain_turn(format, s, i, bytes, block, a, b);
+        }
         format = stage::format_after(format, kind);
         i += 1;
         if bytes == 0 {
             return Passed {
-                stages,
+                chain,
                 format,
                 len: 0,
             };
         }
     }
     Passed {
-        stages,
+        chain,
         format,
         len: bytes,
     }
@@ -256,41 +280,23 @@ fn shorter_of(a: usize, b: usize) -> usize
     if a <= b { a } else { b }
 }
 
-// The chain with its stages moved and the block counted, and the answer.
-fn conclude(
-    chain: Pipeline,
-    stages: [Stage; 8],
-    format: PcmFormat,
-    timestamp: u64,
-    len: usize,
-) -> Outcome
-    ensures { λ r. ⌜ r ≡ outcomeOf chain stages format timestamp len ⌝ }
+// The chain with the block counted, and the answer.
+fn conclude(mut chain: Pipeline, format: PcmFormat, timestamp: u64, len: usize) -> Outcome
+    ensures { λ r. ⌜ r ≡ outcomeOf chain (chain .stages) format timestamp len ⌝ }
 {
-    let count = chain.count;
-    let own = chain.format;
     let blocks = count_up(chain.blocks);
+    chain.blocks = blocks;
     if len == 0 {
         let empty_blocks = count_up(chain.empty_blocks);
+        chain.empty_blocks = empty_blocks;
         return Outcome {
-            chain: Pipeline {
-                stages,
-                count,
-                format: own,
-                blocks,
-                empty_blocks,
-            },
+            chain,
             answer: Answer::NothingYet,
         };
     }
-    let half = last_half(count);
+    let half = last_half(chain.count);
     Outcome {
-        chain: Pipeline {
-            stages,
-            count,
-            format: own,
-            blocks,
-            empty_blocks: chain.empty_blocks,
-        },
+        chain,
         answer: Answer::Output {
             format,
             timestamp,
@@ -307,14 +313,13 @@ fn play(chain: Pipeline, timestamp: u64, block: &[u8], a: &mut [u8], b: &mut [u8
 {
     if chain.count == 0 {
         pcm::copy_front(block, a);
-        let stages = chain.stages;
         let format = chain.format;
-        return conclude(chain, stages, format, timestamp, block.len());
+        return conclude(chain, format, timestamp, block.len());
     }
     let p = pass_stages(chain, block, a, b);
-    let stages = p.stages;
+    let moved = p.chain;
     let format = p.format;
-    conclude(chain, stages, format, timestamp, p.len)
+    conclude(moved, format, timestamp, p.len)
 }
 
 // The block call: the chain afterwards and the answer. The output, where there is one, stands at the front of the half named.
@@ -367,13 +372,12 @@ fn largest_room(chain: Pipeline, frames: usize) -> usize
     ensures { λ r. ⌜ (r ≡ largest (chain .format) (stagesOf chain) frames) × (r ≤ 3688000000000000000) ⌝ }
 {
     let count = chain.count;
-    let stages = chain.stages;
     let mut format = chain.format;
     let mut n = frames;
     let mut most: usize = 0;
     let mut i: usize = 0;
     while i < count {
-        let s = stages[i];
+        let s = chain.stages[i];
         let kind = s.kind;
         format = stage::format_after(format, kind);
         n = stage::frames_wanted(kind, n);

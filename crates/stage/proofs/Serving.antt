@@ -10,7 +10,6 @@ use lib.IntN.{ℤ, natAbs}
 use lib.ListN.{length}
 use Rattle.pcm.specs.declared.PcmFormat.{PcmFormat}
 use Rattle.pcm.specs.declared.filters.FilterMemory.{FilterMemory}
-use Rattle.pcm.specs.Samples.{Samples}
 use Rattle.pcm.specs.Frames.{Frame, FramesOf, framesOf, bytesOf, written, length-frames, length-bytes}
 use Rattle.pcm.specs.Filters.{Taps, FilterBlock, FilteredBlock, filtered, tapsOf, memoryNext, length-filtered-bytes}
 use Rattle.gain.specs.declared.Gain.{Gain}
@@ -32,7 +31,7 @@ use Rattle.stage.specs.declared.StageKind.the-variants as kind
 use Rattle.stage.specs.declared.SoundMemory.{SoundMemory}
 use Rattle.stage.specs.declared.Stage.{Stage}
 use Rattle.stage.specs.Stages.{outOf, keepsOf, stageOut, stageNext, formatAfter}
-use Rattle.stage.specs.Rooms.{suits, framesWanted, roomWanted, Resamples, resamples, stage-frames, Served, Serves}
+use Rattle.stage.specs.Rooms.{suits, framesWanted, roomWanted, Resamples, resamples, held-frames, Held, Served, Serves}
 
 module _ (st : Stage) (xs : List Frame) (k : StageKind) (e : st .kind ≡ k) where
   out-is : stageOut st xs ≡ outOf k (st .memory) xs
@@ -47,7 +46,7 @@ module _ (st : Stage) (xs : List Frame) (k : StageKind) (e : st .kind ≡ k) whe
   as-it-was : keepsOf k (st .memory) xs ≡ st .memory → st ≡ stageNext st xs
   as-it-was h = sym (next-is ∙ ap₂ (λ (k : StageKind) (m : SoundMemory). record { kind = k; memory = m }) (sym e) h)
 
-module _ (f : PcmFormat) (st : Stage) (src dst : List ℕ) (w : Served f st src dst) (held : Samples (st .memory .resampler .last)) where
+module _ (f : PcmFormat) (st : Stage) (src dst : List ℕ) (w : Served f st src dst) (held : Held (st .kind) (st .memory)) where
   abbrev xs : List Frame
   xs = framesOf (f .channels) src
 
@@ -64,7 +63,7 @@ module _ (f : PcmFormat) (st : Stage) (src dst : List ℕ) (w : Served f st src 
   room-of k e = subst (λ (k : StageKind). roomWanted f k (length src / (f .channels * 2)) ≤ length dst) e (w .room)
 
   frames-are : FramesOf (f .channels) xs → FramesOf (formatAfter f (st .kind) .channels) (stageOut st xs)
-  frames-are a = stage-frames f st xs (w .suit) held a
+  frames-are a = held-frames f st xs (w .suit) held a
 
   -- what stands at the front is `bytes`, which are those of the definition
   serves : (next : Stage) (bytes dst′ : List ℕ) (len : ℕ) → next ≡ stageNext st xs → bytes ≡ bytesOf (stageOut st xs) → len ≡ length bytes → dst′ ≡ written bytes dst → Serves f st next xs len dst dst′
@@ -183,7 +182,7 @@ module _ (f : PcmFormat) (st : Stage) (src dst : List ℕ) (w : Served f st src 
 
     -- the bytes of what is made, whose frames have as many samples as those that came
     made-bytes : FramesOf (f .channels) xs → length (bytesOf made) ≡ length made * (f .channels * 2)
-    made-bytes a = length-bytes (f .channels) made (resampled-frames (f .channels) r (st .memory .resampler) xs held a)
+    made-bytes a = length-bytes (f .channels) made (resampled-frames (f .channels) r (st .memory .resampler) xs (subst (λ (k : StageKind). Held k (st .memory)) e held) a)
 
     pub resample-serves : (t : Resampled) (dst′ : List ℕ) → FramesOf (f .channels) xs → Processed made (stateAfter r (st .memory .resampler) xs) dst dst′ t
         → Serves f st (record { kind = kind.Resample r; memory = record { filter = st .memory .filter; resampler = t .state } }) xs (t .frames * (f .channels * 2)) dst dst′

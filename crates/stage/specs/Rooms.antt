@@ -1,6 +1,6 @@
 -- Which stages suit a format, how many frames a stage delivers, and the room that it wants (document 01, pipeline.rs). Assumes nothing.
 use mathlib.Core.Path.{_≡_, refl, sym, ap, _∙_, subst}
-use mathlib.Core.Bool.{Bool, true, false, _&&_}
+use mathlib.Core.Bool.{Bool, true, false, _&&_, cond}
 use mathlib.Core.List.{List, [], _∷_, map}
 use Prim.Native.Nat.{ℕ, zero, suc, _+_, _*_, _/_, _%_, _≤_, _<_}
 use native.Mathlib.Nat.{le-refl, le-trans, mul-le-mul-right}
@@ -25,7 +25,7 @@ use Rattle.stage.specs.declared.StageKind.{StageKind}
 use Rattle.stage.specs.declared.StageKind.the-variants as kind
 use Rattle.stage.specs.declared.SoundMemory.{SoundMemory}
 use Rattle.stage.specs.declared.Stage.{Stage}
-use Rattle.stage.specs.Stages.{outOf, stageOut, stageNext, formatAfter}
+use Rattle.stage.specs.Stages.{outOf, remembers, stageOut, stageNext, formatAfter}
 
 -- ---- definitions
 -- rates within their limit, and divided by a common divisor
@@ -65,6 +65,9 @@ framesWanted (kind.Biquad b) n = n
 -- room wanted: the resampler's, mono to stereo twice the bytes, stereo to mono half, others the same
 unfoldable pub roomWanted : PcmFormat → StageKind → ℕ → ℕ
 roomWanted f k n = framesWanted k n * (formatAfter f k .channels * 2)
+
+pub true-false : true ≡ false → ⊥
+true-false h = let z : _≡_ {A = ℕ} 0 1 = ap (λ (b : Bool). cond b 0 1) h in omega arith
 
 -- ---- what suits
 pub both : (a b : Bool) → (a && b) ≡ true → (a ≡ true) × (b ≡ true)
@@ -118,6 +121,32 @@ suits-bounded f (kind.Resample r) m h = resamples f r m h .rates
 suits-bounded f (kind.DcBlock b) m h = tt
 suits-bounded f (kind.Biquad b) m h = tt
 
+-- a resampler's newest frame is of samples; other kinds have none
+abbrev pub Held : StageKind → SoundMemory → Type 0
+Held (kind.Gain g) m = Unit {0}
+Held kind.MonoToStereo m = Unit {0}
+Held kind.StereoToMono m = Unit {0}
+Held (kind.Resample r) m = Samples (m .resampler .last)
+Held (kind.DcBlock b) m = Unit {0}
+Held (kind.Biquad b) m = Unit {0}
+
+pub samples-held : (k : StageKind) (m : SoundMemory) → Samples (m .resampler .last) → Held k m
+samples-held (kind.Gain g) m h = tt
+samples-held kind.MonoToStereo m h = tt
+samples-held kind.StereoToMono m h = tt
+samples-held (kind.Resample r) m h = h
+samples-held (kind.DcBlock b) m h = tt
+samples-held (kind.Biquad b) m h = tt
+
+-- a stage that remembers nothing holds no frame
+pub plain-held : (k : StageKind) (m : SoundMemory) → remembers k ≡ false → Held k m
+plain-held (kind.Gain g) m h = tt
+plain-held kind.MonoToStereo m h = tt
+plain-held kind.StereoToMono m h = tt
+plain-held (kind.Resample r) m h = absurd (true-false h)
+plain-held (kind.DcBlock b) m h = tt
+plain-held (kind.Biquad b) m h = tt
+
 -- ---- counts and room
 module _ (f : PcmFormat) (m : SoundMemory) where
   count-of : (k : StageKind) (xs : List Frame) → length (outOf k m xs) ≡ framesOut k m (length xs)
@@ -144,7 +173,7 @@ module _ (f : PcmFormat) (m : SoundMemory) where
   room-holds-bytes k n h = mul-le-mul-right (formatAfter f k .channels * 2) (wanted-holds k n h)
 
   -- frames of frames
-  frames-of : (k : StageKind) (xs : List Frame) → suits f k m ≡ true → Samples (m .resampler .last) → FramesOf (f .channels) xs → FramesOf (formatAfter f k .channels) (outOf k m xs)
+  frames-of : (k : StageKind) (xs : List Frame) → suits f k m ≡ true → Held k m → FramesOf (f .channels) xs → FramesOf (formatAfter f k .channels) (outOf k m xs)
   unfolding suits
   frames-of (kind.Gain g) xs h s a = all-map (FrameOf (f .channels)) (FrameOf (f .channels)) (map (scaled (g .q15))) (λ x k. scaled-frame (f .channels) (g .q15) x k) xs a
   frames-of kind.MonoToStereo xs h s a = all-map (FrameOf (f .channels)) (FrameOf 2) doubled (λ x k. doubled-frame x (rw (eqb-true (f .channels) 1 h) at k)) xs a
@@ -157,10 +186,14 @@ pub stage-count : (s : Stage) (xs : List Frame) → length (stageOut s xs) ≡ f
 unfolding stageOut
 stage-count s xs = count-of (record { rate = 0; channels = 0 }) (s .memory) (s .kind) xs
 
-pub stage-frames : (f : PcmFormat) (s : Stage) (xs : List Frame) → suits f (s .kind) (s .memory) ≡ true → Samples (s .memory .resampler .last)
+pub held-frames : (f : PcmFormat) (s : Stage) (xs : List Frame) → suits f (s .kind) (s .memory) ≡ true → Held (s .kind) (s .memory)
     → FramesOf (f .channels) xs → FramesOf (formatAfter f (s .kind) .channels) (stageOut s xs)
 unfolding stageOut
-stage-frames f s xs h k a = frames-of f (s .memory) (s .kind) xs h k a
+held-frames f s xs h k a = frames-of f (s .memory) (s .kind) xs h k a
+
+pub stage-frames : (f : PcmFormat) (s : Stage) (xs : List Frame) → suits f (s .kind) (s .memory) ≡ true → Samples (s .memory .resampler .last)
+    → FramesOf (f .channels) xs → FramesOf (formatAfter f (s .kind) .channels) (stageOut s xs)
+stage-frames f s xs h k a = held-frames f s xs h (samples-held (s .kind) (s .memory) k) a
 
 pub channels-after : (f : PcmFormat) (k : StageKind) → (0 < f .channels) × (f .channels ≤ 2) → (0 < formatAfter f k .channels) × (formatAfter f k .channels ≤ 2)
 channels-after f (kind.Gain g) h = h

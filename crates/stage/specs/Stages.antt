@@ -1,5 +1,6 @@
 -- A stage on frames: what it makes of them and what it keeps, the format that leaves it (document 01, 'The whole stream'). Assumes nothing.
 use mathlib.Core.Path.{_≡_, refl, ap}
+use mathlib.Core.Bool.{Bool, true, false}
 use mathlib.Core.List.{List, [], _∷_, _++_, map}
 use Rattle.pcm.specs.declared.PcmFormat.{PcmFormat}
 use Rattle.pcm.specs.declared.filters.FilterMemory.{FilterMemory}
@@ -34,6 +35,14 @@ keepsOf kind.StereoToMono m xs = m
 keepsOf (kind.Resample r) m xs = record { filter = m .filter; resampler = stateAfter r (m .resampler) xs }
 keepsOf (kind.DcBlock b) m xs = record { filter = memoryNext (dcTick (b .r)) (m .filter) xs; resampler = m .resampler }
 keepsOf (kind.Biquad b) m xs = record { filter = memoryNext (biquadTick (b .coefficients)) (m .filter) xs; resampler = m .resampler }
+
+abbrev pub remembers : StageKind → Bool
+remembers (kind.Gain g) = false
+remembers kind.MonoToStereo = false
+remembers kind.StereoToMono = false
+remembers (kind.Resample r) = true
+remembers (kind.DcBlock b) = true
+remembers (kind.Biquad b) = true
 
 unfoldable pub stageOut : Stage → List Frame → List Frame
 stageOut s xs = outOf (s .kind) (s .memory) xs

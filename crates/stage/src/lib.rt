@@ -1,13 +1,13 @@
 // One stage of a chain: its kind, the sound memory beside it, and what it does to a block.
 ghost use mathlib.Core.Path.{_≡_};
-ghost use mathlib.Core.Bool.{_&&_};
+ghost use mathlib.Core.Bool.{true, false, _&&_};
 ghost use Prim.Native.Nat.{_*_, _≤_};
 ghost use lib.Dec.{eqb, leb, ltb};
 ghost use Rattle.pcm.specs.Samples.{Samples};
 ghost use Rattle.pcm.specs.Frames.{framesOf};
 ghost use Rattle.resample.specs.Opening.{Rates};
 ghost use Rattle.stage.specs.Rooms.{ratesSuit, suits, framesOut, framesWanted, Bounded, Served, Serves};
-ghost use Rattle.stage.specs.Stages.{formatAfter, memoryAsOpened, stageAsOpened, stageClear};
+ghost use Rattle.stage.specs.Stages.{formatAfter, memoryAsOpened, remembers, stageAsOpened, stageClear};
 use biquad::Biquad;
 use dc_block::DcBlock;
 use gain::Gain;
@@ -206,9 +206,49 @@ fn held_samples(state: ResamplerState) -> ResamplerState
     }
 }
 
-// A stage's turn: what it makes of `input` stands at the front of `out`.
+// Does a stage of this kind remember sound? Gain and the channel stages keep nothing.
+pub fn remembers(kind: StageKind) -> bool
+    ensures { λ r. ⌜ r ≡ remembers kind ⌝ }
+{
+    match kind {
+        StageKind::Gain(_) => false,
+        StageKind::MonoToStereo => false,
+        StageKind::StereoToMono => false,
+        StageKind::Resample(_) => true,
+        StageKind::DcBlock(_) => true,
+        StageKind::Biquad(_) => true,
+    }
+}
+
+// The turn of a stage that remembers nothing and so stays as it is: what it makes of `input` stands at the front of `out`.
+// How many bytes that is.
+pub fn apply_plain(format: PcmFormat, stage: Stage, input: &[u8], out: &mut [u8]) -> usize
+    requires { ⌜ Served format stage (now input) (now out) × (remembers (stage .kind) ≡ false) ⌝ }
+    ensures { λ r. ⌜ Serves format stage stage (framesOf (format .channels) (now (input .entry))) r (now (out .entry)) (now (out .exit)) ⌝ }
+{
+    let kind = stage.kind;
+    match kind {
+        StageKind::Gain(g) => {
+            g.process(input, out);
+            input.len()
+        }
+        StageKind::MonoToStereo => {
+            channels::mono_to_stereo(input, out);
+            input.len() * 2
+        }
+        StageKind::StereoToMono => {
+            channels::stereo_to_mono(input, out);
+            input.len() / 2
+        }
+        StageKind::Resample(_) => 0,
+        StageKind::DcBlock(_) => 0,
+        StageKind::Biquad(_) => 0,
+    }
+}
+
+// The turn of a stage that remembers sound: what it makes of `input` stands at the front of `out`.
 pub fn apply(format: PcmFormat, stage: Stage, input: &[u8], out: &mut [u8]) -> Applied
-    requires { ⌜ Served format stage (now input) (now out) ⌝ }
+    requires { ⌜ Served format stage (now input) (now out) × (remembers (stage .kind) ≡ true) ⌝ }
     ensures { λ r. ⌜ Serves format stage (r .stage) (framesOf (format .channels) (now (input .entry))) (r .len) (now (out .entry)) (now (out .exit)) ⌝ }
 {
     let kind = stage.kind;
@@ -218,27 +258,9 @@ pub fn apply(format: PcmFormat, stage: Stage, input: &[u8], out: &mut [u8]) -> A
     let resampler = held_samples(state);
     let channels = format.channels as usize;
     match kind {
-        StageKind::Gain(g) => {
-            g.process(input, out);
-            Applied {
-                stage,
-                len: input.len(),
-            }
-        }
-        StageKind::MonoToStereo => {
-            channels::mono_to_stereo(input, out);
-            Applied {
-                stage,
-                len: input.len() * 2,
-            }
-        }
-        StageKind::StereoToMono => {
-            channels::stereo_to_mono(input, out);
-            Applied {
-                stage,
-                len: input.len() / 2,
-            }
-        }
+        StageKind::Gain(_) => Applied { stage, len: 0 },
+        StageKind::MonoToStereo => Applied { stage, len: 0 },
+        StageKind::StereoToMono => Applied { stage, len: 0 },
         StageKind::Resample(r) => {
             let t = r.process(resampler, channels, input, out);
             let next = t.state;

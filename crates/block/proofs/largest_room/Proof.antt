@@ -19,12 +19,12 @@ use Rattle.block.proofs.largest_room.Statement.{statement}
 use Rattle.block.proofs.largest_room.Tie as tie
 
 abbrev Inv-loop : tie.InvT-loop
-Inv-loop frames count stages f₀ n₀ most₀ i₀ f n most i =
-    (i ≤ count) × (count ≤ 8) × (length stages ≡ 8) × Planned (f₀ .rate) f (drop i (take count stages)) i n
-    × (most ≤ 3688000000000000000) × (largest f₀ (take count stages) n₀ ≡ larger most (largest f (drop i (take count stages)) n))
+Inv-loop frames chain count f₀ n₀ most₀ i₀ f n most i =
+    (i ≤ count) × (count ≤ 8) × (length (chain .stages) ≡ 8) × Planned (f₀ .rate) f (drop i (take count (chain .stages))) i n
+    × (most ≤ 3688000000000000000) × (largest f₀ (take count (chain .stages)) n₀ ≡ larger most (largest f (drop i (take count (chain .stages))) n))
 
 abbrev μ-loop : tie.MeasureT-loop
-μ-loop frames count stages f₀ n₀ most₀ i₀ f n most i = count - i
+μ-loop frames chain count f₀ n₀ most₀ i₀ f n most i = count - i
 
 step : (s : Stage) (rest : List Stage) (f : PcmFormat) (n most : ℕ) (g : PcmFormat) (m b r : ℕ) → g ≡ formatAfter f (s .kind) → m ≡ framesWanted (s .kind) n → b ≡ g .channels * 2 → r ≡ larger most (m * b)
     → larger most (largest f (s ∷ rest) n) ≡ larger r (largest g rest m)
@@ -42,33 +42,33 @@ largest-room-spec =
     Inv-loop
     μ-loop
     (λ c.
-    let s = c .before .before in
-    let k = legal-parts (s .args .chain) (s .pre .0) in
-    (omega arith, k .few, search (unmapped, needs), begun-plan (s .args .chain) (s .args .frames) k (s .pre .1), omega arith, sym (zero-larger _)))
+    let s = c .before in
+    let k = legal-parts (s .args .t1) (s .pre .0) in
+    (omega arith, k .few, search (unmapped, needs), begun-plan (s .args .t1) (s .args .frames) k (s .pre .1), omega arith, sym (zero-larger _)))
     (λ c. search needs)
     (λ c. search needs)
     (λ c κs. search needs)
     (λ c κs.
     let l = c .before .before .before in
-    let s = l .before .before .before in
+    let s = l .before .before in
     let v = l .loop .inv in
-    let k = legal-parts (s .args .chain) (s .pre .0) in
+    let k = legal-parts (s .args .t1) (s .pre .0) in
     (few _ (k .rate .0) (k .rate .1) _ _ _ _ _ (c .before .before .loop-test .taken) (v .1) (v .2) (v .3), bounded _ (k .rate .0) (k .rate .1) _ _ _ _ _ (c .before .before .loop-test .taken) (v .1) (v .2) (v .3)))
     (λ c κs. search needs)
     (λ c.
     let l = c .before .before .before .before .before in
-    let s = l .before .before .before in
+    let s = l .before .before in
     let v = l .loop .inv in
-    let k = legal-parts (s .args .chain) (s .pre .0) in
+    let k = legal-parts (s .args .t1) (s .pre .0) in
     record { fits = omega (arith, room-fits _ (k .rate .0) (k .rate .1) _ _ _ _ _ (c .before .before .before .before .loop-test .taken) (v .1) (v .2) (v .3) _ _ _ (c .before .frames-wanted .ensures) (c .before .before .format-after .ensures) (c .frame-bytes .ensures)) })
     (λ c κs. search needs)
     (λ c. search needs)
     (λ c. search needs)
     (λ c.
     let l = c .before .before .before .before .before .before in
-    let s = l .before .before .before in
+    let s = l .before .before in
     let v = l .loop .inv in
-    let k = legal-parts (s .args .chain) (s .pre .0) in
+    let k = legal-parts (s .args .t1) (s .pre .0) in
     let t = c .before .before .before .before .before .loop-test .taken in
     let w = c .before .before .frames-wanted .ensures in
     let e = c .before .before .before .format-after .ensures in
@@ -83,6 +83,6 @@ largest-room-spec =
     ))
     (λ c.
     let l = c .before in
-    let s = l .before .before .before in
+    let s = l .before .before in
     let v = l .loop .inv in
-    (sym (v .5 ∙ ap (λ x. larger (l .loop .most) (largest (l .loop .format) x (l .loop .n))) (stages-end (s .args .chain .stages) (s .args .chain .count) (l .loop .i) (omega arith)) ∙ end (l .loop .format) (l .loop .n) (l .loop .most)), v .4)))
+    (sym (v .5 ∙ ap (λ x. larger (l .loop .most) (largest (l .loop .format) x (l .loop .n))) (stages-end (s .args .t1 .stages) (s .args .t1 .count) (l .loop .i) (omega arith)) ∙ end (l .loop .format) (l .loop .n) (l .loop .most)), v .4)))

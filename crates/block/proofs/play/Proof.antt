@@ -28,10 +28,10 @@ play-spec =
     (λ c κs. search needs)
     (λ c. search needs)
     (λ c.
-    let s = c .before .before .before .before .before .before .before .before .before .before .before .before in
-    none-played (s .args .chain) (s .args .timestamp) (s .args .block .now) (s .args .a .now) (s .args .b .now) _ _ (c .before .before .before .before .before .before .before .if1 .taken) (s .pre)
-    (all-by-index (λ (x : ℕ). x < 256) 0 (s .args .block .now) (λ i h. omega (arith, c .before .before .before .before .before .before .before .before .before .before .before .shared-slice-known .given i)))
-    (c .before .before .before .before .before .copy-front .ensures) (c .conclude .ensures))
+    let s = c .before .before .before .before .before .before .before .before .before .before .before in
+    none-played (s .args .chain) (s .args .timestamp) (s .args .block .now) (s .args .a .now) (s .args .b .now) _ _ (c .before .before .before .before .before .before .if1 .taken) (s .pre)
+    (all-by-index (λ (x : ℕ). x < 256) 0 (s .args .block .now) (λ i h. omega (arith, c .before .before .before .before .before .before .before .before .before .before .shared-slice-known .given i)))
+    (c .before .before .before .before .copy-front .ensures) (c .conclude .ensures))
     (λ c κs. (c .before .before .before .before .before .before .before .pre, positive _ (c .before .before .if1 .left)))
     (λ c κs. search needs)
     (λ c. search needs)

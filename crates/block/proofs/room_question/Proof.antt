@@ -20,12 +20,12 @@ use Rattle.block.proofs.room_question.Statement.{statement}
 use Rattle.block.proofs.room_question.Tie as tie
 
 abbrev Inv-loop : tie.InvT-loop
-Inv-loop frames shorter count stages f₀ n₀ i₀ f n i =
-    (i ≤ count) × (count ≤ 8) × (length stages ≡ 8) × Planned (f₀ .rate) f (drop i (take count stages)) i n
-    × (roomVerdict f₀ (take count stages) n₀ shorter ≡ roomVerdict f (drop i (take count stages)) n shorter)
+Inv-loop frames shorter chain count f₀ n₀ i₀ f n i =
+    (i ≤ count) × (count ≤ 8) × (length (chain .stages) ≡ 8) × Planned (f₀ .rate) f (drop i (take count (chain .stages))) i n
+    × (roomVerdict f₀ (take count (chain .stages)) n₀ shorter ≡ roomVerdict f (drop i (take count (chain .stages))) n shorter)
 
 abbrev μ-loop : tie.MeasureT-loop
-μ-loop frames shorter count stages f₀ n₀ i₀ f n i = count - i
+μ-loop frames shorter chain count f₀ n₀ i₀ f n i = count - i
 
 nothing : (f : PcmFormat) (n shorter : ℕ) → roomVerdict f [] n shorter ≡ Accepted
 unfolding roomVerdict
@@ -42,57 +42,57 @@ room-question-spec =
     Inv-loop
     μ-loop
     (λ c.
-    let s = c .before .before in
-    let k = legal-parts (s .args .chain) (s .pre .0) in
-    (omega arith, k .few, search (unmapped, needs), begun-plan (s .args .chain) (s .args .frames) k (s .pre .1), refl))
+    let s = c .before in
+    let k = legal-parts (s .args .t1) (s .pre .0) in
+    (omega arith, k .few, search (unmapped, needs), begun-plan (s .args .t1) (s .args .frames) k (s .pre .1), refl))
     (λ c.
     let l = c .before .before in
-    let s = l .before .before .before in
+    let s = l .before .before in
     let v = l .loop .inv in
-    let k = legal-parts (s .args .chain) (s .pre .0) in
+    let k = legal-parts (s .args .t1) (s .pre .0) in
     sym (v .4 ∙ ap (λ x. roomVerdict (l .loop .format) x (l .loop .n) (s .args .shorter)) (ahead _ (k .rate .0) (k .rate .1) _ _ _ _ _ (c .before .loop-test .taken) (v .1) (v .2) (v .3)) ∙ room-none (l .loop .format) _ _ _ _ (c .if1 .taken)))
     (λ c. search needs)
     (λ c. search needs)
     (λ c κs. search needs)
     (λ c κs.
     let l = c .before .before .before .before in
-    let s = l .before .before .before in
+    let s = l .before .before in
     let v = l .loop .inv in
-    let k = legal-parts (s .args .chain) (s .pre .0) in
+    let k = legal-parts (s .args .t1) (s .pre .0) in
     (few _ (k .rate .0) (k .rate .1) _ _ _ _ _ (c .before .before .before .loop-test .taken) (v .1) (v .2) (v .3), bounded _ (k .rate .0) (k .rate .1) _ _ _ _ _ (c .before .before .before .loop-test .taken) (v .1) (v .2) (v .3)))
     (λ c κs. search needs)
     (λ c.
     let l = c .before .before .before .before .before .before in
-    let s = l .before .before .before in
+    let s = l .before .before in
     let v = l .loop .inv in
-    let k = legal-parts (s .args .chain) (s .pre .0) in
+    let k = legal-parts (s .args .t1) (s .pre .0) in
     record { fits = omega (arith, room-fits _ (k .rate .0) (k .rate .1) _ _ _ _ _ (c .before .before .before .before .before .loop-test .taken) (v .1) (v .2) (v .3) _ _ _ (c .before .frames-wanted .ensures) (c .before .before .format-after .ensures) (c .frame-bytes .ensures)) })
     (λ c.
     let l = c .before .before .before .before .before .before .before in
-    let s = l .before .before .before in
+    let s = l .before .before in
     let v = l .loop .inv in
-    let k = legal-parts (s .args .chain) (s .pre .0) in
+    let k = legal-parts (s .args .t1) (s .pre .0) in
     record { fits = omega (arith, room-fits _ (k .rate .0) (k .rate .1) _ _ _ _ _ (c .before .before .before .before .before .before .loop-test .taken) (v .1) (v .2) (v .3) _ _ _ (c .before .before .frames-wanted .ensures) (c .before .before .before .format-after .ensures) (c .before .frame-bytes .ensures)) })
     (λ c.
     let l = c .before .before .before .before .before .before .before in
-    let s = l .before .before .before in
+    let s = l .before .before in
     let v = l .loop .inv in
-    let k = legal-parts (s .args .chain) (s .pre .0) in
+    let k = legal-parts (s .args .t1) (s .pre .0) in
     sym (v .4 ∙ ap (λ x. roomVerdict (l .loop .format) x (l .loop .n) (s .args .shorter)) (ahead _ (k .rate .0) (k .rate .1) _ _ _ _ _ (c .before .before .before .before .before .before .loop-test .taken) (v .1) (v .2) (v .3))
     ∙ room-short (l .loop .format) _ _ _ _ _ (c .before .before .before .before .before .if1 .left) (room-is _ _ _ _ _ _ (c .before .before .frames-wanted .ensures) (c .before .before .before .format-after .ensures) (c .before .frame-bytes .ensures)) (c .if2 .taken)))
     (λ c κs.
     let l = c .before .before .before .before .before .before .before in
-    let s = l .before .before .before in
+    let s = l .before .before in
     let v = l .loop .inv in
-    let k = legal-parts (s .args .chain) (s .pre .0) in
+    let k = legal-parts (s .args .t1) (s .pre .0) in
     (few _ (k .rate .0) (k .rate .1) _ _ _ _ _ (c .before .before .before .before .before .before .loop-test .taken) (v .1) (v .2) (v .3), bounded _ (k .rate .0) (k .rate .1) _ _ _ _ _ (c .before .before .before .before .before .before .loop-test .taken) (v .1) (v .2) (v .3)))
     (λ c. search needs)
     (λ c. search needs)
     (λ c.
     let l = c .before .before .before .before .before .before .before .before in
-    let s = l .before .before .before in
+    let s = l .before .before in
     let v = l .loop .inv in
-    let k = legal-parts (s .args .chain) (s .pre .0) in
+    let k = legal-parts (s .args .t1) (s .pre .0) in
     let t = c .before .before .before .before .before .before .before .loop-test .taken in (
       search needs,
       v .1,
@@ -104,5 +104,5 @@ room-question-spec =
     ))
     (λ c.
     let l = c .before in
-    let s = l .before .before .before in
-    sym (l .loop .inv .4 ∙ ap (λ x. roomVerdict (l .loop .format) x (l .loop .n) (s .args .shorter)) (stages-end (s .args .chain .stages) (s .args .chain .count) (l .loop .i) (omega arith)) ∙ nothing _ _ _)))
+    let s = l .before .before in
+    sym (l .loop .inv .4 ∙ ap (λ x. roomVerdict (l .loop .format) x (l .loop .n) (s .args .shorter)) (stages-end (s .args .t1 .stages) (s .args .t1 .count) (l .loop .i) (omega arith)) ∙ nothing _ _ _)))

@@ -15,11 +15,11 @@ use Rattle.block.proofs.stages_suit.Statement.{statement}
 use Rattle.block.proofs.stages_suit.Tie as tie
 
 abbrev Inv-loop : tie.InvT-loop
-Inv-loop count stages f₀ i₀ f i =
-    (i ≤ count) × (count ≤ 8) × (length stages ≡ 8) × (suited f₀ (take count stages) ≡ suited f (drop i (take count stages)))
+Inv-loop chain count f₀ i₀ f i =
+    (i ≤ count) × (count ≤ 8) × (length (chain .stages) ≡ 8) × (suited f₀ (take count (chain .stages)) ≡ suited f (drop i (take count (chain .stages))))
 
 abbrev μ-loop : tie.MeasureT-loop
-μ-loop count stages f₀ i₀ f i = count - i
+μ-loop chain count f₀ i₀ f i = count - i
 
 nothing : (f : PcmFormat) → suited f [] ≡ true
 unfolding suited
@@ -37,7 +37,7 @@ stages-suit-spec =
     (λ c κs. search needs)
     (λ c.
     let at-loop = c .before .before .before .before in
-    let s = at-loop .before .before .before .args .chain in
+    let s = at-loop .before .before .args .t1 in
     let v = at-loop .loop .inv in
     sym (v .3 ∙ ap (suited (at-loop .loop .format)) (stage-at (s .stages) (s .count) (at-loop .loop .i) _ (omega arith) (omega arith))
     ∙ suited-no (at-loop .loop .format) _ _ (sym (c .before .stage-suits .ensures) ∙ not-true _ (c .if1 .taken))))
@@ -46,7 +46,7 @@ stages-suit-spec =
     (λ c. search needs)
     (λ c.
     let at-loop = c .before .before .before .before .before in
-    let s = at-loop .before .before .before .args .chain in
+    let s = at-loop .before .before .args .t1 in
     let v = at-loop .loop .inv in (
       search needs,
       search needs,
@@ -56,6 +56,6 @@ stages-suit-spec =
     ))
     (λ c.
     let at-loop = c .before in
-    let s = at-loop .before .before .before .args .chain in
+    let s = at-loop .before .before .args .t1 in
     let e : at-loop .loop .i ≡ s .count = omega arith in
     sym (at-loop .loop .inv .3 ∙ ap (suited (at-loop .loop .format)) (stages-end (s .stages) (s .count) (at-loop .loop .i) (omega arith)) ∙ nothing (at-loop .loop .format))))
