@@ -86,6 +86,11 @@ j : map (roundSat 32768 32767) (fin false 1 (negsuc 0) ∷ fin true 1 (negsuc 0)
 unfolding roundSat halfUp
 j = refl
 
+-- 'Baked in by haste': just under one half, where adding 0.5 in binary32 gives 1
+just-under-half : roundSat 32768 32767 (fin false 16777215 (negsuc 24)) ≡ pos 0
+unfolding roundSat halfUp
+just-under-half = refl
+
 gain-stages : (f : PcmFormat) → openStages 8 f (0x06 ∷ 0x00 ∷ 0x01 ∷ 0x00 ∷ 0x00 ∷ 0x40 ∷ 0x00 ∷ 0x00 ∷ []) ≡ opened (stageAsOpened (kind.Gain (record { q15 = pos 16384 })) ∷ [])
 unfolding openStages recordVerdict stageVerdict recordOf recordBytes
 gain-stages f = refl
