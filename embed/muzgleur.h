@@ -93,7 +93,7 @@ muzgleur_chain muzgleur_reset(muzgleur_chain chain);
 /* The format that leaves the last stage. */
 muzgleur_format muzgleur_output_format(muzgleur_chain chain);
 
-/* Bytes of both halves together that any block of size bytes finds enough, in any state. */
+/* Twice the bytes of a half: two such halves are enough for any block of size bytes, in any state. */
 muzgleur_scratch_result muzgleur_scratch_bytes(muzgleur_chain chain, size_t size);
 
 /* The recipe that the chain was opened from, at the front of out. Refused: out as it was. */

@@ -1,7 +1,7 @@
 //! The cases: each stage of the source, and ours.
 
 use crate::kernels;
-use crate::timing::Case;
+use crate::timing::{Case, Side};
 use oracle::elements::{Biquad, BiquadKind, Coefficients, DcBlock, Gain, LinearResampler, MonoToStereo, StereoToMono, mix_i16};
 use oracle::esp_core::pcm::{PcmBlock, PcmFormat, SampleFormat};
 use oracle::pipeline::Element;
@@ -29,52 +29,47 @@ fn gain(name: &'static str, q15: i32, goal: f64) -> Case {
 
 const RATE: u32 = 16_000;
 
+/// A stage of the source that starts each block from silence.
+fn from_silence(rate: u32, channels: u16, stage: impl Element + 'static) -> Side {
+    let stage = RefCell::new(stage);
+    Box::new(move |input, out| {
+        let stage = &mut *stage.borrow_mut();
+        stage.reset();
+        process_at(rate, stage, channels, input, out)
+    })
+}
+
 fn dc_block(name: &'static str, channels: u16) -> Case {
-    let stage = RefCell::new(DcBlock::new());
     let r = DcBlock::pole(20.0, RATE);
     Case {
         name,
         channels: channels.into(),
         goal: [None, Some(1.0), Some(1.0)],
-        source: Box::new(move |input, out| {
-            let stage = &mut *stage.borrow_mut();
-            stage.reset();
-            process(stage, channels, input, out)
-        }),
+        source: from_silence(RATE, channels, DcBlock::new()),
         ours: Box::new(move |input, out| kernels::dc_block(r, channels.into(), input, out)),
     }
 }
 
 fn biquad(name: &'static str, channels: u16) -> Case {
     let kind = BiquadKind::LowPass { f0: 3_000.0, q: 0.707 };
-    let stage = RefCell::new(Biquad::new(kind));
     let k = Coefficients::design(kind, RATE).unwrap();
     Case {
         name,
         channels: channels.into(),
         goal: [None, Some(1.0), Some(1.0)],
-        source: Box::new(move |input, out| {
-            let stage = &mut *stage.borrow_mut();
-            stage.reset();
-            process(stage, channels, input, out)
-        }),
+        source: from_silence(RATE, channels, Biquad::new(kind)),
         ours: Box::new(move |input, out| kernels::biquad(k, channels.into(), input, out)),
     }
 }
 
 fn resample(name: &'static str, given: [u32; 2], channels: u16) -> Case {
-    let stage = RefCell::new(LinearResampler::new(given[0], given[1]).unwrap());
     let rates = kernels::Rates::new(given);
     let goal = if given[0] == given[1] { [None; 3] } else { [Some(1.0), Some(0.9), Some(0.9)] };
     Case {
         name,
         channels: channels.into(),
         goal,
-        source: Box::new(move |input, out| {
-            let stage = &mut *stage.borrow_mut();
-            stage.reset();
-            process_at(given[0], stage, channels, input, out)
-        }),
+        source: from_silence(given[0], channels, LinearResampler::new(given[0], given[1]).unwrap()),
         ours: Box::new(move |input, out| kernels::resample(rates, channels.into(), input, out)),
     }
 }

@@ -7,14 +7,17 @@ pub const FRAMES: [usize; 3] = [16, 1024, 8192];
 const ROUNDS: usize = 400;
 const ROUND_NS: u128 = 40_000;
 
+/// One side's block function.
+pub type Side = Box<dyn Fn(&[u8], &mut [u8]) -> usize>;
+
 /// A block function of both sides, over the same bytes. Each run returns the bytes it wrote.
 pub struct Case {
     pub name: &'static str,
     pub channels: usize,
     /// The largest ratio allowed at each of `FRAMES`, where there is one.
     pub goal: [Option<f64>; 3],
-    pub source: Box<dyn Fn(&[u8], &mut [u8]) -> usize>,
-    pub ours: Box<dyn Fn(&[u8], &mut [u8]) -> usize>,
+    pub source: Side,
+    pub ours: Side,
 }
 
 /// Bytes at an address that an i16 may have.

@@ -29,7 +29,7 @@ unfoldable pub suited : PcmFormat → List Stage → Bool
 suited f [] = true
 suited f (s ∷ rest) = suits f (s .kind) (s .memory) && suited (formatAfter f (s .kind)) rest
 
--- a chain that opening or a call can have returned
+-- what the block call needs of a chain; every chain that opening or a call returned has it
 unfoldable pub legal : Pipeline → Bool
 legal c = leb (c .count) 8 && (formatAllowed (c .format) && suited (c .format) (stagesOf c))
 
@@ -55,7 +55,7 @@ wholeFrames f size = ltb 0 size && eqb (size % (f .channels * 2)) 0
 abbrev pub sameFormat : PcmFormat → PcmFormat → Bool
 sameFormat f g = eqb (f .rate) (g .rate) && eqb (f .channels) (g .channels)
 
--- Is the chain one that a call returned? else 1. Whole frames, at least one? else 4. At most 8,192? else 10
+-- Is the chain legal? else 1. Whole frames, at least one? else 4. At most 8,192? else 10
 abbrev pub sizeAsked : Pipeline → ℕ → Verdict → Verdict
 sizeAsked c size next =
     ask (legal c) InvalidFormat
@@ -80,7 +80,7 @@ put i out h =
     (record { a = written out (h .a); b = h .b })
     (record { a = h .a; b = written out (h .b) })
 
--- every stage from stage i + 1 on writes its output bytes at the front of its half; one that delivers 0 bytes ends the call
+-- every stage from stage i + 1 on writes its output bytes at the front of its half; after one that delivers 0 bytes none is written
 unfoldable pub passed : ℕ → List Stage → List Frame → Halves → Halves
 passed i [] xs h = h
 passed i (s ∷ rest) xs h = passed (suc i) rest (stageOut s xs) (put i (bytesOf (stageOut s xs)) h)

@@ -62,7 +62,7 @@ fn stages_suit(chain: Pipeline) -> bool
     true
 }
 
-// Can opening or a call have returned this chain?
+// Is this chain one that the block call can take?
 fn chain_legal(chain: Pipeline) -> bool
     ensures { λ r. ⌜ r ≡ legal chain ⌝ }
 {
@@ -387,7 +387,7 @@ fn largest_room(chain: Pipeline, frames: usize) -> usize
     most
 }
 
-// Bytes of both halves together that any block of `size` bytes finds enough, in any state.
+// Twice the bytes of a half: two such halves are enough for any block of `size` bytes, in any state.
 pub fn scratch_bytes(chain: Pipeline, size: usize) -> Scratch
     ensures { λ r. ⌜ r ≡ scratchBytes chain size ⌝ }
 {

@@ -81,7 +81,7 @@ pub extern "C" fn biquad_block(
     stage.process(input, out, channels, FilterMemory::new());
 }
 
-// A resampler as opened. The rates, then the same divided by their greatest common divisor. The frames written.
+// A resampler as opened. The rates, then in_r and out_r. The frames written.
 #[no_mangle]
 pub extern "C" fn resample_block(
     in_rate: u32,

@@ -28,14 +28,14 @@ use Rattle.stage.specs.declared.Stage.{Stage}
 use Rattle.stage.specs.Stages.{outOf, remembers, stageOut, stageNext, formatAfter}
 
 -- ---- definitions
--- rates within their limit, and divided by a common divisor
+-- rates within their limit, and in_r and out_r of the same ratio and no larger
 unfoldable pub ratesSuit : LinearResampler → Bool
 ratesSuit r =
     ratesAllowed (r .«in_rate») (r .«out_rate»)
     && ((ltb 0 (r .«in_r») && leb (r .«in_r») (r .«in_rate»))
     && ((ltb 0 (r .«out_r») && leb (r .«out_r») (r .«out_rate»)) && eqb (r .«in_r» * r .«out_rate») (r .«out_r» * r .«in_rate»)))
 
--- a stage that opening can have made where this format reaches it, with a phase that a call can have left
+-- what the block call needs of a stage that this format reaches: settings within their limits, a format that suits, a phase below in_r
 unfoldable pub suits : PcmFormat → StageKind → SoundMemory → Bool
 suits f (kind.Gain g) m = factorAllowed (g .q15)
 suits f kind.MonoToStereo m = eqb (f .channels) 1

@@ -88,7 +88,7 @@ pub fn format_after(format: PcmFormat, kind: StageKind) -> PcmFormat
     }
 }
 
-// Is a rate that was divided by a common divisor from 1 to the rate itself?
+// Is a part of a rate from 1 to the rate itself?
 fn part_suits(part: u64, rate: u64) -> bool
     ensures { λ r. ⌜ r ≡ (ltb 0 part && leb part rate) ⌝ }
 {
@@ -98,7 +98,7 @@ fn part_suits(part: u64, rate: u64) -> bool
     part <= rate
 }
 
-// Are a resampler's rates within their limit, and divided by a common divisor?
+// Are a resampler's rates within their limit, and in_r and out_r of the same ratio and no larger?
 fn rates_suit(r: LinearResampler) -> bool
     ensures { λ b. ⌜ b ≡ ratesSuit r ⌝ }
 {
@@ -124,7 +124,7 @@ fn parts_suit(input: u64, output: u64, in_r: u64, out_r: u64) -> bool
     false
 }
 
-// Is this a stage that opening can have made where `format` reaches it, with a phase that a call can have left?
+// What the block call needs of a stage that `format` reaches: settings within their limits, a format that suits, a phase below in_r.
 pub fn stage_suits(format: PcmFormat, stage: Stage) -> bool
     ensures { λ r. ⌜ r ≡ suits format (stage .kind) (stage .memory) ⌝ }
 {
