@@ -49,16 +49,20 @@ fn double_of_bits(n: u64) -> f64 {
     }
 }
 
+// A number of 16 bits and a value of 64.
+fn valued(number: u16, value: u64) {
+    output::short(number);
+    output::long(value);
+}
+
 // Number and needed of a refusal.
 fn refusal(e: Error) {
-    output::short(e.number());
-    output::long(e.needed() as u64);
+    valued(e.number(), e.needed() as u64);
 }
 
 // Number and needed of a result.
 fn result() {
-    output::short(0);
-    output::long(0);
+    valued(0, 0);
 }
 
 fn ended(chain: Pipeline) -> Step {
@@ -264,14 +268,8 @@ pub fn scratch_bytes(chain: Pipeline) -> bool {
     }
     let answer = block::scratch_bytes(chain, input::get_u64(&s, 0) as usize);
     match answer {
-        Scratch::Bytes(value) => {
-            output::short(0);
-            output::long(value as u64);
-        }
-        Scratch::Refused(e) => {
-            output::short(e.number());
-            output::long(0);
-        }
+        Scratch::Bytes(n) => valued(0, n as u64),
+        Scratch::Refused(e) => valued(e.number(), 0),
     }
     true
 }
@@ -313,12 +311,6 @@ pub fn mix(a: &mut [u8], b: &mut [u8], out: &mut [u8]) -> bool {
         &mut out[..k],
     );
     true
-}
-
-// A number of 16 bits and a value of 64.
-fn valued(number: u16, value: u64) {
-    output::short(number);
-    output::long(value);
 }
 
 // What the rates and the frames come to.

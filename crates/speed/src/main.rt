@@ -6,6 +6,7 @@ use block::Answer;
 use block::Half;
 use pcm::PcmFormat;
 use pipeline::Pipeline;
+use recipe::words;
 use std::num::wrapping_add_u64;
 
 // Frames that came out, and a checksum of 32 bits.
@@ -150,16 +151,6 @@ fn passes(run: Run, times: u32, size: usize, sound: &[u8], a: &mut [u8], b: &mut
     last
 }
 
-// The number of four bytes, low byte first.
-fn word(s: &[u8], at: usize) -> u32
-    requires { ⌜ at + 4 ≤ length (now s) ⌝ }
-{
-    (wide(s[at])
-        + wide(s[at + 1]) * 256
-        + wide(s[at + 2]) * 65536
-        + wide(s[at + 3]) * 16777216) as u32
-}
-
 // Frames and checksum.
 fn print(tally: Tally) {
     io::print_decimal(1, tally.frames);
@@ -221,8 +212,8 @@ fn bytes_of(frames: usize, channels: u16) -> usize
 fn play_script(script: &[u8])
     requires { ⌜ 16 ≤ length (now script) ⌝ }
 {
-    let rate = word(script, 0);
-    let channels = (word(script, 4) % 65536) as u16;
+    let rate = words::get_u32(script, 0);
+    let channels = (words::get_u32(script, 4) % 65536) as u16;
     let opened = Pipeline::open(PcmFormat { rate, channels }, &script[16..]);
     let verdict = opened.verdict;
     if verdict.number() != 0 {
@@ -230,8 +221,13 @@ fn play_script(script: &[u8])
         return;
     }
     let chain = opened.chain;
-    let size = bytes_of(block_frames(word(script, 8)), channels);
-    play(chain, word(script, 12), size, bytes_of(8192, channels));
+    let size = bytes_of(block_frames(words::get_u32(script, 8)), channels);
+    play(
+        chain,
+        words::get_u32(script, 12),
+        size,
+        bytes_of(8192, channels),
+    );
 }
 
 fn main() {

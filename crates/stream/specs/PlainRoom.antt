@@ -26,6 +26,7 @@ use Rattle.stage.specs.Stages.{stageOut, stageAsOpened, memoryAsOpened, formatA
 use Rattle.stage.specs.Rooms.{both, suits, ratesSuit, resamples, roomWanted, stage-count}
 use Rattle.pipeline.specs.declared.Pipeline.{Pipeline}
 use Rattle.block.specs.BlockCall.{stagesOf, suited, legal, roomVerdict, halvesVerdict, wholeFrames, sameFormat, verdictOf}
+use Rattle.block.specs.Bounds.{suited-first, suited-rest}
 use Rattle.stream.specs.PlainChain.{plainStage, plainMemory, plainState, stage-is-plain, memory-is-plain}
 
 -- ---- definitions
@@ -77,19 +78,11 @@ suits-still f (kind.Resample r) X h =
 suits-still f (kind.DcBlock b) X h = h
 suits-still f (kind.Biquad b) X h = h
 
-pub suited-first : (f : PcmFormat) (k : StageKind) (ks : List StageKind) → suited f (map stageAsOpened (k ∷ ks)) ≡ true → suits f k memoryAsOpened ≡ true
-unfolding suited
-suited-first f k ks h = both (suits f k memoryAsOpened) _ h .0
-
-pub suited-rest : (f : PcmFormat) (k : StageKind) (ks : List StageKind) → suited f (map stageAsOpened (k ∷ ks)) ≡ true → suited (formatAfter f k) (map stageAsOpened ks) ≡ true
-unfolding suited
-suited-rest f k ks h = both (suits f k memoryAsOpened) _ h .1
-
 pub suited-still : (f : PcmFormat) (ks : List StageKind) (X : List Frame) → suited f (map stageAsOpened ks) ≡ true → suited f (plainState ks X) ≡ true
 unfolding suited plainState
 suited-still f [] X h = refl
 suited-still f (k ∷ ks) X h =
-    rw (suits-still f k X (suited-first f k ks h)) (suited-still (formatAfter f k) ks (plainStage k X) (suited-rest f k ks h))
+    rw (suits-still f k X (suited-first f (stageAsOpened k) (map stageAsOpened ks) h)) (suited-still (formatAfter f k) ks (plainStage k X) (suited-rest f (stageAsOpened k) (map stageAsOpened ks) h))
 
 -- ---- the questions by counts are those of the plain chain
 delivered-next : (k : StageKind) (X Y : List Frame) → deliveredNext k X Y ≡ stageOut (record { kind = k; memory = plainMemory k X }) Y

@@ -26,7 +26,7 @@ use Rattle.block.specs.Chain.{formatLeaving}
 use Rattle.block.specs.BlockCall.{suited}
 use Rattle.stream.specs.Opened.{RatesReduced}
 use Rattle.stream.specs.PlainChain.{plainStage, plainOut, receivedBy, deliveredBy, stage-is-plain}
-use Rattle.stream.specs.PlainRoom.{suited-first, suited-rest}
+use Rattle.block.specs.Bounds.{suited-first, suited-rest}
 
 -- a resampler r of unequal rates that has received the T frames X and delivered the frames Y
 pub record Resampled (r : LinearResampler) (X Y : List Frame) : Type 0 where
@@ -100,7 +100,7 @@ unfolding formatLeaving plainOut
 received-frames f [] X suit a zero = a
 received-frames f [] X suit a (suc i) = a
 received-frames f (k ∷ ks) X suit a zero = a
-received-frames f (k ∷ ks) X suit a (suc i) = received-frames (formatAfter f k) ks (plainStage k X) (suited-rest f k ks suit) (plain-frames f k X (suited-first f k ks suit) a) i
+received-frames f (k ∷ ks) X suit a (suc i) = received-frames (formatAfter f k) ks (plainStage k X) (suited-rest f (stageAsOpened k) (map stageAsOpened ks) suit) (plain-frames f k X (suited-first f (stageAsOpened k) (map stageAsOpened ks) suit) a) i
 
 no-stage : (k : StageKind) (ks : List StageKind) → [] ≡ k ∷ ks → ⊥
 no-stage k ks e = let z : _≡_ {A = ℕ} 0 1 = cc in omega arith
@@ -115,6 +115,6 @@ resampler-in-chain f [] X suit rates a (suc i) r later e unequal = absurd (no-st
 resampler-in-chain f (k ∷ ks) X suit rates a zero r later e unequal =
     let q : k ≡ kind.Resample r = cc in
     subst (λ (h : StageKind). Resampled r X (plainStage h X)) (sym q)
-    (resampler-is f r X (rw q at (suited-first f k ks suit)) (rw q at (rates .0)) unequal a)
+    (resampler-is f r X (rw q at (suited-first f (stageAsOpened k) (map stageAsOpened ks) suit)) (rw q at (rates .0)) unequal a)
 resampler-in-chain f (k ∷ ks) X suit rates a (suc i) r later e unequal =
-    resampler-in-chain (formatAfter f k) ks (plainStage k X) (suited-rest f k ks suit) (rates .1) (plain-frames f k X (suited-first f k ks suit) a) i r later e unequal
+    resampler-in-chain (formatAfter f k) ks (plainStage k X) (suited-rest f (stageAsOpened k) (map stageAsOpened ks) suit) (rates .1) (plain-frames f k X (suited-first f (stageAsOpened k) (map stageAsOpened ks) suit) a) i r later e unequal
