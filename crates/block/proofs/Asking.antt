@@ -1,73 +1,73 @@
--- The questions of a block's size, from their answer. Assumes nothing.
-use mathlib.Core.Path.{_≡_, refl}
-use mathlib.Core.Bool.{Bool, true, false}
-use mathlib.Core.List.{List, [], _∷_}
-use Prim.Native.Nat.{ℕ, _+_, _*_, _/_, _%_, _≤_, _<_}
-use native.Mathlib.Nat.{div-add-mod', mul-le-mul}
+-- The walk that asks, from one stage to the next and to its end. Assumes nothing.
+use mathlib.Core.Path.{_≡_, sym, ap, _∙_, subst}
+use mathlib.Core.Bool.{true}
+use mathlib.Core.List.{List}
+use Prim.Native.Nat.{ℕ, _+_, _≤_, _<_}
 use native.Mathlib.Omega.{arith}
-use borrow.Author.Tests.{leb-true, ltb-true, eqb-true}
-use lib.Dec.{eqb, leb, ltb}
-use lib.ListN.{length, take}
-use lib.Seq.{length-take-le}
-use Rattle.pcm.specs.declared.Error.{Error}
-use Rattle.pcm.specs.declared.Error.the-variants.{InvalidFormat, InvalidGeometry, TooManyFrames}
-use Rattle.pcm.specs.declared.Verdict.{Verdict}
-use Rattle.pcm.specs.declared.Verdict.the-variants.{Accepted, Refused}
-use Rattle.pcm.specs.Refusals.{ask}
+use borrow.Author.Tests.{leb-true, ltb-true}
+use lib.Dec.{leb, ltb}
+use lib.ListN.{length, take, drop, getD}
+use Rattle.pcm.specs.declared.PcmFormat.{PcmFormat}
+use Rattle.pcm.specs.Formats.{formatAllowed, rateAllowed, channelsAllowed}
 use Rattle.stage.specs.declared.Stage.{Stage}
 use Rattle.stage.specs.Rooms.{both}
-use Rattle.pipeline.specs.declared.Pipeline.{Pipeline}
-use Rattle.block.specs.BlockCall.{legal, stagesOf, wholeFrames, sizeAsked}
-use Rattle.block.specs.Steps.{ask-yes}
-use Rattle.block.specs.Bounds.{Legal, legal-parts}
+use Rattle.block.specs.declared.questions.Question.{Question}
+use Rattle.block.specs.declared.questions.Walk.{Walk}
+use Rattle.block.specs.Steps.{stage-at, stages-end, drop-zero}
+use Rattle.block.specs.Walk.{headLegal, stepped, begun, walked}
+use Rattle.block.specs.Walking.{Within, few, step-within, begun-within, walked-step, walked-none}
+use Rattle.block.proofs.Counts.{noStage}
 
-yes-then : (p q r : Bool) (a b c : Error) (w : Verdict) → ask p a (ask q b (ask r c Accepted)) ≡ Accepted → ask p a (ask q b (ask r c w)) ≡ w
-yes-then true true true a b c w h = refl
-yes-then true true false a b c w h = cc
-yes-then true false r a b c w h = cc
-yes-then false q r a b c w h = cc
+-- what a legal head says
+pub record Head (f : PcmFormat) (count : ℕ) : Type 0 where
+  pub few : count ≤ 8
+  pub rate : (0 < f .rate) × (f .rate ≤ 384000)
+  pub channels : (0 < f .channels) × (f .channels ≤ 2)
 
-no-then : (p q r : Bool) (a b c : Error) (w : Verdict) (e : Error) → ask p a (ask q b (ask r c Accepted)) ≡ Refused e → ask p a (ask q b (ask r c w)) ≡ Refused e
-no-then true true true a b c w e h = cc
-no-then true true false a b c w e h = h
-no-then true false r a b c w e h = h
-no-then false q r a b c w e h = h
+pub head-parts : (f : PcmFormat) (count : ℕ) → headLegal f count ≡ true → Head f count
+unfolding formatAllowed rateAllowed channelsAllowed
+head-parts f count h =
+    let p = both (leb count 8) (formatAllowed f) h in
+    let a = both (channelsAllowed (f .channels)) (rateAllowed (f .rate)) (p .1) in
+    let b = both (ltb 0 (f .channels)) (leb (f .channels) 2) (a .0) in
+    let d = both (ltb 0 (f .rate)) (leb (f .rate) 384000) (a .1) in
+    record { few = leb-true _ _ (p .0); rate = (ltb-true _ _ (d .0), leb-true _ _ (d .1)); channels = (ltb-true _ _ (b .0), leb-true _ _ (b .1)) }
 
--- a block of a legal size
-pub record Sized (c : Pipeline) (size : ℕ) : Type 0 where
-  pub chain : Legal c
-  pub legal-is : legal c ≡ true
-  pub some : 0 < size
-  pub whole : size % (c .format .channels * 2) ≡ 0
-  pub most : size / (c .format .channels * 2) ≤ 8192
+-- before stage i + 1: what the whole walk finds is what it finds from here on
+pub record Asks (q : Question) (shorter first : ℕ) (stages : List Stage) (count : ℕ) (start w : Walk) (i : ℕ) : Type 0 where
+  pub at-most : i ≤ count
+  pub few : count ≤ 8
+  pub long : length stages ≡ 8
+  pub rate : (0 < first) × (first ≤ 384000)
+  pub within : Within first w i
+  pub so-far : walked q shorter start (take count stages) ≡ walked q shorter w (drop i (take count stages))
 
-module _ (c : Pipeline) (size : ℕ) where
-  pub asked-yes : (w : Verdict) → sizeAsked c size Accepted ≡ Accepted → sizeAsked c size w ≡ w
-  asked-yes w h = yes-then (legal c) (wholeFrames (c .format) size) (leb (size / (c .format .channels * 2)) 8192) InvalidFormat InvalidGeometry TooManyFrames w h
+pub asks-first : (q : Question) (shorter size n count : ℕ) (f : PcmFormat) (stages : List Stage) (w : Walk) → headLegal f count ≡ true → length stages ≡ 8 → w ≡ begun f n size shorter
+    → Asks q shorter (f .rate) stages count w w 0
+asks-first q shorter size n count f stages w h len e =
+    let k = head-parts f count h in
+    record {
+      at-most = omega arith;
+      few = k .few;
+      long = len;
+      rate = k .rate;
+      within = subst (λ (v : Walk). Within (f .rate) v 0) (sym e) (begun-within f n size shorter (k .rate .1) (k .channels));
+      so-far = ap (walked q shorter w) (sym (drop-zero (take count stages)));
+    }
 
-  pub asked-no : (w : Verdict) (e : Error) → sizeAsked c size Accepted ≡ Refused e → sizeAsked c size w ≡ Refused e
-  asked-no w e h = no-then (legal c) (wholeFrames (c .format) size) (leb (size / (c .format .channels * 2)) 8192) InvalidFormat InvalidGeometry TooManyFrames w e h
+module _ (q : Question) (shorter first : ℕ) (stages : List Stage) (count : ℕ) (start w : Walk) (i : ℕ) (p : Asks q shorter first stages count start w i) where
+  pub asks-fits : i < count → (w .frames ≤ 2400000000000) × ((0 < w .format .channels) × (w .format .channels ≤ 2))
+  asks-fits h = (few first (p .rate .0) (p .rate .1) w i (omega (arith, p .few)) (p .within), p .within .channels)
 
-  pub sized : (w : Verdict) → sizeAsked c size w ≡ Accepted → Sized c size
-  sized w h =
-      let p = ask-yes (legal c) InvalidFormat _ h in
-      let q = ask-yes (wholeFrames (c .format) size) InvalidGeometry _ (p .1) in
-      let r = ask-yes (leb (size / (c .format .channels * 2)) 8192) TooManyFrames w (q .1) in
-      let k = both (ltb 0 size) (eqb (size % (c .format .channels * 2)) 0) (q .0) in
-      record { chain = legal-parts c (p .0); legal-is = p .0; some = ltb-true _ _ (k .0); whole = eqb-true _ _ (k .1); most = leb-true _ _ (r .0) }
+  pub asks-next : i < count → (v : Walk) → v ≡ stepped q shorter w (getD stages i noStage) → Asks q shorter first stages count start v (i + 1)
+  asks-next h v e = record {
+    at-most = omega arith;
+    few = p .few;
+    long = p .long;
+    rate = p .rate;
+    within = subst (λ (x : Walk). Within first x (i + 1)) (sym e) (step-within first (p .rate .0) (p .rate .1) w i (omega (arith, p .few)) (p .within) q shorter (getD stages i noStage));
+    so-far = p .so-far ∙ ap (walked q shorter w) (stage-at stages count i noStage h (omega (arith, p .few, p .long))) ∙ walked-step q shorter w (getD stages i noStage) (drop (i + 1) (take count stages)) ∙ ap (λ (x : Walk). walked q shorter x (drop (i + 1) (take count stages))) (sym e);
+  }
 
-  pub frame-some : Sized c size → (b : ℕ) → b ≡ c .format .channels * 2 → 0 < b
-  frame-some s b e = omega (arith, s .chain .channels .0)
-
-  pub small : Sized c size → size ≤ 32768
-  small s = omega (arith, div-add-mod' size (c .format .channels * 2), mul-le-mul (s .most) (let l : c .format .channels * 2 ≤ 4 = omega (arith, s .chain .channels .1) in l), s .whole)
-
-pub no-stages : (c : Pipeline) → c .count ≡ 0 → stagesOf c ≡ []
-no-stages c e = rw e (none (c .stages))
-  where
-    none : (l : List Stage) → take 0 l ≡ []
-    none [] = refl
-    none (x ∷ l) = refl
-
-pub some-stages : (c : Pipeline) → c .count ≤ 8 → (c .count ≡ 0 → ⊥) → length (c .stages) ≡ 8 → 0 < length (stagesOf c)
-some-stages c h z e = rw (length-take-le (c .count) (c .stages) (omega arith)) (omega arith)
+  pub asks-end : count ≤ i → w ≡ walked q shorter start (take count stages)
+  asks-end h = sym (p .so-far ∙ ap (walked q shorter w) (stages-end stages count i h) ∙ walked-none q shorter w)

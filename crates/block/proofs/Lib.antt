@@ -1,7 +1,8 @@
 mod Lengths
-mod Walk
-mod Reaching
+mod Counts
 mod Asking
 mod Turning
-mod Moving
+mod Playing
+mod Reaching
+mod Stages
 mod Concluding

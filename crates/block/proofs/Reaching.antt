@@ -1,30 +1,29 @@
 -- From before one stage to before the next, and to the end. Assumes nothing.
 use mathlib.Core.Path.{_≡_, refl, sym, ap, ap₂, _∙_, subst}
-use mathlib.Core.Logic.{_⊎_, inl, inr}
-use mathlib.Core.Bool.{Bool, true, false, cond, _&&_}
-use mathlib.Core.List.{List, [], _∷_, _++_, append-assoc, append-nil}
+use mathlib.Core.Bool.{Bool, true, false, cond}
+use mathlib.Core.List.{List, [], _∷_, _++_, append-assoc}
 use Prim.Native.Nat.{ℕ, zero, suc, _+_, _-_, _*_, _/_, _%_, _≤_, _<_}
 use native.Mathlib.Nat.{mul-pos, mul-div-cancel, mul-mod-left, div-add-mod', zero-mul}
 use native.Mathlib.Decide.{decLt}
 use native.Mathlib.Numerals.{add-one}
 use native.Mathlib.Omega.{arith}
-use borrow.Author.Tests.{eq-eqb, ne-eqb, le-leb, lt-leb, leb-true, leb-false}
+use borrow.Author.Tests.{eq-eqb, ne-eqb, leb-true, leb-false}
 use lib.Dec.{eqb, leb}
-use lib.ListN.{length, take, drop, getD, set, length-set, take-append-drop, drop-of-length-le}
-use lib.Seq.{take-suc-set, drop-set-lt, drop-drop, getD-drop, drop-cons, take-all, length-take-le}
+use lib.ListN.{length, take, drop, getD, set, take-append-drop}
+use lib.Seq.{take-suc-set, drop-set-lt, drop-drop, getD-drop, length-take-le}
 use Rattle.pcm.specs.declared.PcmFormat.{PcmFormat}
 use Rattle.pcm.specs.declared.Verdict.the-variants.{Accepted}
 use Rattle.pcm.specs.Samples.{Bytes}
 use Rattle.pcm.specs.Frames.{Frame, FramesOf, framesOf, bytesOf, written, length-bytes, frames-bytes, length-frames, frames-are-frames, front-written, length-written, written-nil}
 use Rattle.stage.specs.declared.Stage.{Stage}
 use Rattle.stage.specs.Stages.{stageOut, stageNext, formatAfter, stage-out-nil}
-use Rattle.stage.specs.Rooms.{suits, framesOut, roomWanted, Served, stage-count, room-holds-bytes, channels-after}
+use Rattle.stage.specs.Rooms.{suits, framesOut, roomWanted, Served, Serves, stage-count, room-holds-bytes, channels-after}
 use Rattle.pipeline.specs.declared.Pipeline.{Pipeline}
 use Rattle.block.specs.Chain.{chainOut, chainNext, formatLeaving, chain-out-nil, chain-next-nil}
-use Rattle.block.specs.BlockCall.{Halves, put, suited, roomVerdict, passed, stagesOf, shorter, legal, halvesVerdict}
+use Rattle.block.specs.BlockCall.{Halves, put, suited, roomVerdict, passed, stagesOf, shorter, halvesVerdict}
 use Rattle.block.specs.Steps.{stage-at, stages-end, drop-zero, room-first, room-rest}
 use Rattle.block.specs.Bounds.{suited-first, suited-rest, Legal, legal-parts}
-use Rattle.block.specs.Turns.{Turns, sourceAt, targetAt, Accepts, Passes, Reached}
+use Rattle.block.specs.Turns.{halves, Turns, sourceAt, targetAt, TurnAsks, TurnDoes, Takes, Accepts, Ended, Reached}
 
 -- ---- small laws
 module _ (s : Stage) (rest : List Stage) where
@@ -36,7 +35,7 @@ module _ (s : Stage) (rest : List Stage) where
   unfolding formatLeaving
   format-cons f = refl
 
-passed-none : (i : ℕ) (xs : List Frame) (h : Halves) → passed i [] xs h ≡ h
+pub passed-none : (i : ℕ) (xs : List Frame) (h : Halves) → passed i [] xs h ≡ h
 unfolding passed
 passed-none i xs h = refl
 
@@ -110,7 +109,7 @@ none-of : {A : Type 0} (l : List A) → length l ≡ 0 → l ≡ []
 none-of [] e = refl
 none-of (x ∷ l) e = absurd (let b : ⊥ = omega arith in b)
 
-positive : (n : ℕ) → (n ≡ 0 → ⊥) → 0 < n
+pub positive : (n : ℕ) → (n ≡ 0 → ⊥) → 0 < n
 positive n z = omega arith
 
 whole-frames : (n k : ℕ) → n % k ≡ 0 → n / k * k ≡ n
@@ -132,6 +131,22 @@ drop-seam l count i h = sym (drop-split l count i h)
     drop-split [] (suc count) (suc i) h = refl
     drop-split (x ∷ l) (suc count) (suc i) h = drop-split l count i (omega arith)
     drop-split l zero (suc i) h = absurd (let c : ⊥ = omega arith in c)
+
+-- ---- a turn, by its half
+pub turns-of : (f : PcmFormat) (s next : Stage) (i n len : ℕ) (block : List ℕ) (h h′ : Halves)
+    → TurnDoes i n block h h′ (λ (source before after : List ℕ). Serves f s next (framesOf (f .channels) source) len before after)
+    → Turns f s next (framesOf (f .channels) (sourceAt i n block h)) i len h h′
+turns-of f s next i n len block h h′ d = record {
+  keeps = d .does .keeps;
+  size = d .does .size;
+  gives = go (eqb (i % 2) 0) (bytesOf (stageOut s (framesOf (f .channels) (sourceAt i n block h)))) (d .does .gives) (d .other);
+  frames = d .does .frames;
+}
+  where
+    go : (t : Bool) (out : List ℕ) → cond t (h′ .a) (h′ .b) ≡ written out (cond t (h .a) (h .b)) → cond t (h′ .b) (h′ .a) ≡ cond t (h .b) (h .a)
+        → h′ ≡ cond t (record { a = written out (h .a); b = h .b }) (record { a = h .a; b = written out (h .b) })
+    go true out p q = ap₂ halves p q
+    go false out p q = ap₂ halves q p
 
 -- ---- one stage
 module _ (old : List Stage) (count : ℕ) (format : PcmFormat) (block : List ℕ) (before : Halves) (short : ℕ)
@@ -167,13 +182,20 @@ module _ (old : List Stage) (count : ℕ) (format : PcmFormat) (block : List ℕ
   frames-here : length (sourceAt i n block h) / (f .channels * 2) ≡ length (r .xs)
   frames-here = ap (λ (k : ℕ). k / (f .channels * 2)) (r .long) ∙ mul-div-cancel (length (r .xs)) (let p : 0 < f .channels * 2 = omega (arith, r .channels .0) in p)
 
-  pub served : Served f s (sourceAt i n block h) (targetAt i h)
+  served : Served f s (sourceAt i n block h) (targetAt i h)
   served = record {
     suit = suit-here;
     channels = r .channels;
     some = rw (r .long) (mul-pos (r .some) (let p : 0 < f .channels * 2 = omega (arith, r .channels .0) in p));
     whole = rw (r .long) (mul-mod-left (length (r .xs)) (f .channels * 2));
     room = rw frames-here (target-long i h (roomWanted f (s .kind) (length (r .xs))) (omega (arith, room-here)) (omega (arith, room-here)));
+  }
+
+  -- what its turn asks
+  pub takes : TurnAsks i n block h (Takes f s)
+  takes = record {
+    reads = r .long ∙ sym (length-bytes (f .channels) (r .xs) (r .good)) ∙ sym (r .size);
+    asks = (served, subst (FramesOf (f .channels)) (sym (r .source)) (r .good));
   }
 
   -- the stage has had its turn
@@ -264,7 +286,6 @@ module _ (old : List Stage) (count : ℕ) (format : PcmFormat) (block : List ℕ
           source = ap (framesOf (g .channels)) src ∙ frames-bytes (g .channels) out some-channels good-out;
           long = ap length src ∙ long-out;
           size = size-is;
-          within = λ q. within-out;
           suit = subst (λ (k : PcmFormat). suited k rest ≡ true) (sym e) (suited-rest f s rest (sym (ap (suited f) ahead) ∙ r .suit));
           room = subst (λ (k : PcmFormat). roomVerdict k rest (length out) short ≡ Accepted) (sym e)
               (subst (λ (k : ℕ). roomVerdict (formatAfter f (s .kind)) rest k short ≡ Accepted) (sym count-out) (room-rest f s rest (length (r .xs)) short not-none room-all));
@@ -276,21 +297,17 @@ module _ (old : List Stage) (count : ℕ) (format : PcmFormat) (block : List ℕ
         }
 
     -- nothing came: the later stages are not run
-    module _ (z : m ≡ 0) where
-      out-none : out ≡ []
-      out-none = none-of out (zero-factor (length out) (g .channels * 2) (omega (arith, some-channels)) (sym long-out ∙ sym size-is ∙ z))
-
-      pub stopped-keeps : moved ≡ chainNext (take count old) (framesOf (format .channels) block) ++ drop count old
-      stopped-keeps =
-          let split : rest ++ drop count old ≡ drop (i + 1) old = drop-seam old count (i + 1) (omega arith) in
-          sym (keeps-out ∙ ap (λ (l : List Stage). take (i + 1) moved ++ (l ++ drop count old)) (ap (chainNext rest) out-none ∙ chain-next-nil rest)
-          ∙ ap (λ (l : List Stage). take (i + 1) moved ++ l) (split ∙ sym tail-out) ∙ take-append-drop (i + 1) moved)
-
-      pub stopped-size : m ≡ length (bytesOf (chainOut (take count old) (framesOf (format .channels) block)))
-      stopped-size = z ∙ sym (ap (λ (xs : List Frame). length (bytesOf xs)) (makes-out ∙ ap (chainOut rest) out-none ∙ chain-out-nil rest) ∙ ap length bytes-nil)
-
-      pub stopped-halves : h′ ≡ passed 0 (take count old) (framesOf (format .channels) block) before
-      stopped-halves = sym (sides-out ∙ ap (λ (xs : List Frame). passed (i + 1) rest xs h′) out-none ∙ passed-nil (i + 1) rest h′)
+    pub stopped : m ≡ 0 → Ended old count format block before moved g m h′
+    stopped z = record {
+      keeps = sym (keeps-out ∙ ap (λ (l : List Stage). take (i + 1) moved ++ (l ++ drop count old)) (ap (chainNext rest) out-none ∙ chain-next-nil rest)
+          ∙ ap (λ (l : List Stage). take (i + 1) moved ++ l) (drop-seam old count (i + 1) (omega arith) ∙ sym tail-out) ∙ take-append-drop (i + 1) moved);
+      size = z ∙ sym (ap (λ (xs : List Frame). length (bytesOf xs)) (makes-out ∙ ap (chainOut rest) out-none ∙ chain-out-nil rest) ∙ ap length bytes-nil);
+      form = λ q. absurd (q z);
+      halves-are = sym (sides-out ∙ ap (λ (xs : List Frame). passed (i + 1) rest xs h′) out-none ∙ passed-nil (i + 1) rest h′);
+    }
+      where
+        out-none : out ≡ []
+        out-none = none-of out (zero-factor (length out) (g .channels * 2) (omega (arith, some-channels)) (sym long-out ∙ sym size-is ∙ z))
 
 -- ---- past the last stage
 module _ (old : List Stage) (count : ℕ) (format : PcmFormat) (block : List ℕ) (before : Halves) (short : ℕ)
@@ -299,19 +316,14 @@ module _ (old : List Stage) (count : ℕ) (format : PcmFormat) (block : List ℕ
   over : drop i (take count old) ≡ []
   over = stages-end old count i (omega arith)
 
-  pub ended-keeps : stages ≡ chainNext (take count old) (framesOf (format .channels) block) ++ drop count old
-  ended-keeps =
-      sym (r .keeps ∙ ap (λ (l : List Stage). take i stages ++ (chainNext l (r .xs) ++ drop count old)) over
-      ∙ ap (λ (k : ℕ). take i stages ++ drop k old) (sym last) ∙ ap (λ (l : List Stage). take i stages ++ l) (sym (r .tail)) ∙ take-append-drop i stages)
-
-  pub ended-size : n ≡ length (bytesOf (chainOut (take count old) (framesOf (format .channels) block)))
-  ended-size = r .size ∙ ap (λ (xs : List Frame). length (bytesOf xs)) (sym (r .makes ∙ ap (λ (l : List Stage). chainOut l (r .xs)) over))
-
-  pub ended-form : f ≡ formatLeaving format (take count old)
-  ended-form = sym (r .form ∙ ap (formatLeaving f) over ∙ format-none f)
-
-  pub ended-halves : h ≡ passed 0 (take count old) (framesOf (format .channels) block) before
-  ended-halves = sym (r .sides ∙ ap (λ (l : List Stage). passed i l (r .xs) h) over ∙ passed-none i (r .xs) h)
+  pub ended : Ended old count format block before stages f n h
+  ended = record {
+    keeps = sym (r .keeps ∙ ap (λ (l : List Stage). take i stages ++ (chainNext l (r .xs) ++ drop count old)) over
+        ∙ ap (λ (k : ℕ). take i stages ++ drop k old) (sym last) ∙ ap (λ (l : List Stage). take i stages ++ l) (sym (r .tail)) ∙ take-append-drop i stages);
+    size = r .size ∙ ap (λ (xs : List Frame). length (bytesOf xs)) (sym (r .makes ∙ ap (λ (l : List Stage). chainOut l (r .xs)) over));
+    form = λ q. sym (r .form ∙ ap (formatLeaving f) over ∙ format-none f);
+    halves-are = sym (r .sides ∙ ap (λ (l : List Stage). passed i l (r .xs) h) over ∙ passed-none i (r .xs) h);
+  }
 
 -- ---- before the first stage
 pub halves-some : (f : PcmFormat) (l : List Stage) (size short : ℕ) → 0 < length l → halvesVerdict f l size short ≡ roomVerdict f l (size / (f .channels * 2)) short
@@ -340,7 +352,6 @@ module _ (c : Pipeline) (block a b : List ℕ) (w : Accepts c block a b) (len : 
         source = refl;
         long = first-long;
         size = first-long ∙ sym (length-bytes (c .format .channels) (framesOf (c .format .channels) block) (frames-are-frames (c .format .channels) block bytes));
-        within = λ q. absurd (q refl);
         suit = rw whole (ok .suit);
         room = rw (whole, first-length) (sym (halves-some (c .format) (stagesOf c) (length block) (shorter a b) n) ∙ w .room);
         sides = rw whole;

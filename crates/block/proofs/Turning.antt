@@ -1,39 +1,37 @@
--- A stage's turn: which bytes are read and which half is written, from the stage's own contract. Assumes nothing.
+-- A stage's turn: which bytes are read and which half is written. Assumes nothing.
 use borrow.Author.Tests.{eq-eqb, ne-eqb}
 use mathlib.Core.Path.{_≡_, ap}
 use mathlib.Core.List.{List}
-use Prim.Native.Nat.{ℕ, _%_}
-use lib.ListN.{take}
-use Rattle.pcm.specs.declared.PcmFormat.{PcmFormat}
-use Rattle.pcm.specs.Frames.{framesOf}
-use Rattle.stage.specs.declared.Stage.{Stage}
-use Rattle.stage.specs.Rooms.{Served, Serves}
-use Rattle.block.specs.Turns.{Turns, sourceAt, targetAt}
+use Prim.Native.Nat.{ℕ, _%_, _≤_}
+use native.Mathlib.Omega.{arith}
+use lib.ListN.{length, take, length-take}
+use Rattle.block.specs.Turns.{halves, evenSource, TurnAsks, TurnDoes}
 
-module _ (f : PcmFormat) (s : Stage) (i n : ℕ) (block a b : List ℕ) where
-  abbrev Asks : Type 0
-  Asks = Served f s (sourceAt i n block (record { a = a; b = b })) (targetAt i (record { a = a; b = b }))
+-- a front of n bytes is there
+front-there : (n : ℕ) (l : List ℕ) → length (take n l) ≡ n → n ≤ length l
+front-there n l e = omega (arith, simp length-take at e)
 
-  abbrev Gives : Stage → ℕ → List ℕ → List ℕ → Type 0
-  Gives next len a′ b′ =
-      Turns f s next (framesOf (f .channels) (sourceAt i n block (record { a = a; b = b }))) i len (record { a = a; b = b }) (record { a = a′; b = b′ })
+module _ (i n : ℕ) (block a b : List ℕ) (Asks : List ℕ → List ℕ → Type 0) (w : TurnAsks i n block (halves a b) Asks) where
+  pub even-reads : i % 2 ≡ 0 → (i ≡ 0 → ⊥) → n ≤ length b
+  even-reads e z = front-there n b (rw (ne-eqb i 0 z, eq-eqb (i % 2) 0 e) at (w .reads))
 
-  pub first-asks : i ≡ 0 → Asks → Served f s block a
-  first-asks e w = rw e at w
+  pub even-asks : i % 2 ≡ 0 → (source : List ℕ) → source ≡ evenSource i n block b → Asks source a
+  even-asks e source h = rw h (rw (eq-eqb (i % 2) 0 e) at (w .asks))
 
-  pub first-gives : (next : Stage) (len : ℕ) (a′ : List ℕ) → i ≡ 0 → Serves f s next (framesOf (f .channels) block) len a a′ → Gives next len a′ b
-  first-gives next len a′ e r = rw e (record { keeps = r .keeps; size = r .size; frames = r .frames; gives = ap (λ (l : List ℕ). record { a = l; b = b }) (r .gives) })
+  not-first : (i % 2 ≡ 0 → ⊥) → i ≡ 0 → ⊥
+  not-first e z = e (ap (λ (k : ℕ). k % 2) z)
 
-  pub even-asks : (i ≡ 0 → ⊥) → i % 2 ≡ 0 → Asks → Served f s (take n b) a
-  even-asks z e w = rw (ne-eqb i 0 z, eq-eqb (i % 2) 0 e) at w
+  pub odd-reads : (i % 2 ≡ 0 → ⊥) → n ≤ length a
+  odd-reads e = front-there n a (rw (ne-eqb i 0 (not-first e), ne-eqb (i % 2) 0 e) at (w .reads))
 
-  pub even-gives : (next : Stage) (len : ℕ) (a′ : List ℕ) → (i ≡ 0 → ⊥) → i % 2 ≡ 0 → Serves f s next (framesOf (f .channels) (take n b)) len a a′ → Gives next len a′ b
-  even-gives next len a′ z e r =
-      rw (ne-eqb i 0 z, eq-eqb (i % 2) 0 e) (record { keeps = r .keeps; size = r .size; frames = r .frames; gives = rw (eq-eqb (i % 2) 0 e) (ap (λ (l : List ℕ). record { a = l; b = b }) (r .gives)) })
+  pub odd-asks : (i % 2 ≡ 0 → ⊥) → Asks (take n a) b
+  odd-asks e = rw (ne-eqb i 0 (not-first e), ne-eqb (i % 2) 0 e) at (w .asks)
 
-  pub odd-asks : (i ≡ 0 → ⊥) → (i % 2 ≡ 0 → ⊥) → Asks → Served f s (take n a) b
-  odd-asks z e w = rw (ne-eqb i 0 z, ne-eqb (i % 2) 0 e) at w
+module _ (i n : ℕ) (block a b after : List ℕ) (Does : List ℕ → List ℕ → List ℕ → Type 0) where
+  pub even-does : i % 2 ≡ 0 → (source : List ℕ) → source ≡ evenSource i n block b → Does source a after → TurnDoes i n block (halves a b) (halves after b) Does
+  even-does e source h d = record { does = rw (eq-eqb (i % 2) 0 e) (rw h at d); other = rw (eq-eqb (i % 2) 0 e) }
 
-  pub odd-gives : (next : Stage) (len : ℕ) (b′ : List ℕ) → (i ≡ 0 → ⊥) → (i % 2 ≡ 0 → ⊥) → Serves f s next (framesOf (f .channels) (take n a)) len b b′ → Gives next len a b′
-  odd-gives next len b′ z e r =
-      rw (ne-eqb i 0 z, ne-eqb (i % 2) 0 e) (record { keeps = r .keeps; size = r .size; frames = r .frames; gives = rw (ne-eqb (i % 2) 0 e) (ap (λ (l : List ℕ). record { a = a; b = l }) (r .gives)) })
+  pub odd-does : (i % 2 ≡ 0 → ⊥) → Does (take n a) b after → TurnDoes i n block (halves a b) (halves a after) Does
+  odd-does e d =
+      let z : i ≡ 0 → ⊥ = λ q. e (ap (λ (k : ℕ). k % 2) q) in
+      record { does = rw (ne-eqb i 0 z, ne-eqb (i % 2) 0 e) d; other = rw (ne-eqb (i % 2) 0 e) }

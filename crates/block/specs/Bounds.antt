@@ -1,31 +1,27 @@
 -- No stage is reached by more frames than fit: frames times the first rate are at most (8,192 + 768,000 i) times the rate there. Assumes nothing.
-use mathlib.Core.Path.{_≡_, refl, sym, ap, ap₂, _∙_, subst}
+use mathlib.Core.Path.{_≡_, refl, subst}
 use mathlib.Core.Bool.{Bool, true, false, cond, _&&_}
 use mathlib.Core.List.{List, [], _∷_}
-use mathlib.Core.Logic.{_⊎_, inl, inr}
-use Prim.Native.Nat.{ℕ, zero, suc, _+_, _-_, _*_, _/_, _≤_, _<_}
+use Prim.Native.Nat.{ℕ, _+_, _-_, _*_, _≤_, _<_}
 use native.Mathlib.Nat.{le-antisymm, le-refl, le-trans, div-mul-le-self, mul-le-mul, mul-le-mul-left, mul-le-mul-right, le-of-mul-le-mul-right, div-le-self}
 use native.Mathlib.Omega.{arith}
 use borrow.Author.Tests.{leb-true, leb-false, le-leb, ltb-true}
 use lib.Dec.{eqb, leb, ltb}
-use lib.ListN.{drop}
 use Rattle.pcm.specs.declared.PcmFormat.{PcmFormat}
 use Rattle.pcm.specs.declared.Error.the-variants.{BufferTooSmall}
-use Rattle.pcm.specs.declared.Verdict.{Verdict}
-use Rattle.pcm.specs.declared.Verdict.the-variants.{Accepted, Refused}
+use Rattle.pcm.specs.declared.Verdict.the-variants.{Accepted}
 use Rattle.pcm.specs.Formats.{formatAllowed, rateAllowed, channelsAllowed}
 use Rattle.pcm.specs.Refusals.{ask}
 use Rattle.resample.specs.Counting.{ceilDiv, ceil-reach, ceil-least}
-use Rattle.resample.specs.Opening.{Rates, roomFrames}
+use Rattle.resample.specs.Opening.{roomFrames}
 use Rattle.stage.specs.declared.Stage.{Stage}
 use Rattle.stage.specs.declared.StageKind.{StageKind}
 use Rattle.stage.specs.declared.StageKind.the-variants as kind
 use Rattle.stage.specs.declared.SoundMemory.{SoundMemory}
 use Rattle.stage.specs.Stages.{formatAfter}
-use Rattle.stage.specs.Rooms.{suits, framesOut, framesWanted, roomWanted, both, Resamples, resamples, Bounded, suits-bounded, wanted-holds, channels-after}
+use Rattle.stage.specs.Rooms.{suits, framesOut, framesWanted, roomWanted, both, Resamples, resamples, Bounded, suits-bounded, wanted-holds}
 use Rattle.pipeline.specs.declared.Pipeline.{Pipeline}
 use Rattle.block.specs.BlockCall.{suited, legal, stagesOf, roomVerdict, larger, largest}
-use Rattle.block.specs.Steps.{drop-zero}
 
 -- ---- the stages one at a time
 module _ (f : PcmFormat) (s : Stage) (rest : List Stage) (h : suited f (s ∷ rest) ≡ true) where
@@ -38,13 +34,6 @@ module _ (f : PcmFormat) (s : Stage) (rest : List Stage) (h : suited f (s ∷ re
   suited-rest = both (suits f (s .kind) (s .memory)) (suited (formatAfter f (s .kind)) rest) h .1
 
 -- ---- the bound
--- before stage i + 1, which n frames of the format f reach
-pub record Planned (first : ℕ) (f : PcmFormat) (rest : List Stage) (i n : ℕ) : Type 0 where
-  pub rate-high : f .rate ≤ 384000
-  pub channels : (0 < f .channels) × (f .channels ≤ 2)
-  pub suit : suited f rest ≡ true
-  pub bound : n * first ≤ (8192 + 768000 * i) * f .rate
-
 module _ (first : ℕ) (low : 0 < first) (high : first ≤ 384000) where
   grown : (n m i o K : ℕ) → 0 < i → 0 < o → n * first ≤ K * i → m * i ≤ n * o + 2 * i → m * first ≤ (K + 768000) * o
   grown n m i o K hi ho h l =
@@ -52,13 +41,14 @@ module _ (first : ℕ) (low : 0 < first) (high : first ≤ 384000) where
       (omega (arith, mul-le-mul-right first l, mul-le-mul-right o h, mul-le-mul-right i (mul-le-mul high (let u : 1 ≤ o = ho in u)), mul-le-mul-left i high))
       hi
 
-  pub few-frames : {f : PcmFormat} {rest : List Stage} {i n : ℕ} → i ≤ 8 → Planned first f rest i n → n ≤ 2400000000000
-  few-frames {f} {rest} {i} {n} h p =
+  -- n frames of this rate reach stage i + 1
+  pub few-frames : {rate i n : ℕ} → i ≤ 8 → rate ≤ 384000 → n * first ≤ (8192 + 768000 * i) * rate → n ≤ 2400000000000
+  few-frames {rate} {i} {n} h r p =
       let k : 8192 + 768000 * i ≤ 6152192 = omega arith in
-      omega (arith, mul-le-mul k (p .rate-high), p .bound, mul-le-mul-left n (let u : 1 ≤ first = low in u))
+      omega (arith, mul-le-mul k r, mul-le-mul-left n (let u : 1 ≤ first = low in u))
 
   -- one stage further, with as many frames as it wants room for, or fewer
-  next-bound : (f : PcmFormat) (k : StageKind) (m : SoundMemory) (i n t : ℕ) → suits f k m ≡ true → n * first ≤ (8192 + 768000 * i) * f .rate → f .rate ≤ 384000 → t ≤ framesWanted k n
+  pub next-bound : (f : PcmFormat) (k : StageKind) (m : SoundMemory) (i n t : ℕ) → suits f k m ≡ true → n * first ≤ (8192 + 768000 * i) * f .rate → f .rate ≤ 384000 → t ≤ framesWanted k n
       → (t * first ≤ (8192 + 768000 * (i + 1)) * formatAfter f k .rate) × (formatAfter f k .rate ≤ 384000)
   unfolding framesWanted roomFrames
   next-bound f k m i n t h b r l = go k h l
@@ -88,13 +78,6 @@ module _ (first : ℕ) (low : 0 < first) (high : first ≤ 384000) where
       go (kind.DcBlock c) h l = same l
       go (kind.Biquad c) h l = same l
 
-  -- one stage further, where it delivers at most what it wants room for
-  pub onward : (f g : PcmFormat) (s : Stage) (rest : List Stage) (i n t : ℕ) → Planned first f (s ∷ rest) i n → g ≡ formatAfter f (s .kind) → t ≤ framesWanted (s .kind) n → Planned first g rest (i + 1) t
-  onward f g s rest i n t p e l =
-      let b = next-bound f (s .kind) (s .memory) i n t (suited-first f s rest (p .suit)) (p .bound) (p .rate-high) l in
-      subst (λ (x : PcmFormat). Planned first x rest (i + 1) t) (sym e)
-      (record { rate-high = b .1; channels = channels-after f (s .kind) (p .channels); suit = suited-rest f s rest (p .suit); bound = b .0 })
-
 -- ---- a chain that a call returned
 pub record Legal (c : Pipeline) : Type 0 where
   pub few : c .count ≤ 8
@@ -116,14 +99,6 @@ legal-parts c h =
       channels = (ltb-true _ _ (b .0), leb-true _ _ (b .1));
       suit = q .1;
     }
-
-pub begun-plan : (c : Pipeline) (frames : ℕ) → Legal c → frames ≤ 8192 → Planned (c .format .rate) (c .format) (drop 0 (stagesOf c)) 0 frames
-begun-plan c frames k h = record {
-  rate-high = k .rate .1;
-  channels = k .channels;
-  suit = rw (drop-zero (stagesOf c)) (k .suit);
-  bound = mul-le-mul (let l : frames ≤ 8192 + 768000 * 0 = omega arith in l) (le-refl (c .format .rate));
-}
 
 -- room for a stage fits a word
 pub wanted-most : (k : StageKind) (n : ℕ) → Bounded k → n ≤ 2400000000000 → framesWanted k n ≤ 922000000000000000

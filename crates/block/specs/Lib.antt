@@ -1,6 +1,9 @@
 pub mod Chain
 pub mod BlockCall
+pub mod Walk
 pub mod Turns
 pub mod Steps
 pub mod Bounds
+pub mod Walking
+pub mod Beforehand
 pub mod Scratch

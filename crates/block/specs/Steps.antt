@@ -1,13 +1,12 @@
 -- The chain's questions and halves, one stage at a time. Assumes nothing.
-use mathlib.Core.Path.{_≡_, refl, sym, ap, ap₂, _∙_}
-use mathlib.Core.Bool.{Bool, true, false, cond}
+use mathlib.Core.Path.{_≡_, refl, sym, ap₂, _∙_}
+use mathlib.Core.Bool.{Bool, true, false}
 use mathlib.Core.List.{List, [], _∷_}
-use Prim.Native.Nat.{ℕ, suc, _+_, _*_, _/_, _≤_, _<_}
+use Prim.Native.Nat.{ℕ, _+_, _*_, _/_, _≤_, _<_}
 use native.Mathlib.Numerals.{add-one}
 use native.Mathlib.Omega.{arith}
 use borrow.Author.Tests.{le-leb, lt-leb, eq-eqb, ne-eqb, leb-true, ltb-true, eqb-true}
 use lib.Dec.{leb, ltb}
-use lib.IntN.{pos}
 use lib.ListN.{length, take, drop, getD, drop-of-length-le, length-take}
 use lib.Seq.{drop-cons, getD-take, length-take-le}
 use Rattle.pcm.specs.declared.PcmFormat.{PcmFormat}
@@ -18,7 +17,7 @@ use Rattle.pcm.specs.declared.Verdict.the-variants.{Accepted, Refused}
 use Rattle.pcm.specs.Refusals.{ask}
 use Rattle.stage.specs.declared.Stage.{Stage}
 use Rattle.stage.specs.Stages.{formatAfter}
-use Rattle.stage.specs.Rooms.{both, suits, framesOut, framesWanted, roomWanted}
+use Rattle.stage.specs.Rooms.{both, suits, framesOut, roomWanted}
 use Rattle.pipeline.specs.declared.Pipeline.{Pipeline}
 use Rattle.block.specs.BlockCall.{legal, suited, wholeFrames, sameFormat, roomVerdict, verdictOf, shorter}
 use Rattle.block.specs.Turns.{Accepts}

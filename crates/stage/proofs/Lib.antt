@@ -1,2 +1,1 @@
 mod Products
-mod Serving

@@ -1,12 +1,11 @@
-// One stage of a chain: its kind, the sound memory beside it, and what it does to a block.
+// One stage of a chain: its kind, the sound memory beside it, and what it asks of a block.
 ghost use mathlib.Core.Path.{_≡_};
 ghost use mathlib.Core.Bool.{true, false, _&&_};
 ghost use Prim.Native.Nat.{_*_, _≤_};
 ghost use lib.Dec.{eqb, leb, ltb};
 ghost use Rattle.pcm.specs.Samples.{Samples};
-ghost use Rattle.pcm.specs.Frames.{framesOf};
 ghost use Rattle.resample.specs.Opening.{Rates};
-ghost use Rattle.stage.specs.Rooms.{ratesSuit, suits, framesOut, framesWanted, Bounded, Served, Serves};
+ghost use Rattle.stage.specs.Rooms.{ratesSuit, suits, framesOut, framesWanted, Bounded};
 ghost use Rattle.stage.specs.Stages.{formatAfter, memoryAsOpened, remembers, stageAsOpened, stageClear};
 use biquad::Biquad;
 use dc_block::DcBlock;
@@ -186,14 +185,8 @@ pub fn frames_wanted(kind: StageKind, frames: usize) -> usize
     }
 }
 
-// A stage after its turn, and how many bytes it delivered.
-pub struct Applied {
-    pub stage: Stage,
-    pub len: usize,
-}
-
 // The state as it is; that its newest frame is of samples is what its type says.
-fn held_samples(state: ResamplerState) -> ResamplerState
+pub fn held_samples(state: ResamplerState) -> ResamplerState
     ensures { λ r. ⌜ (r ≡ state) × Samples (state .last) ⌝ }
 {
     let last = state.last;
@@ -217,85 +210,5 @@ pub fn remembers(kind: StageKind) -> bool
         StageKind::Resample(_) => true,
         StageKind::DcBlock(_) => true,
         StageKind::Biquad(_) => true,
-    }
-}
-
-// The turn of a stage that remembers nothing and so stays as it is: what it makes of `input` stands at the front of `out`.
-// How many bytes that is.
-pub fn apply_plain(format: PcmFormat, stage: Stage, input: &[u8], out: &mut [u8]) -> usize
-    requires { ⌜ Served format stage (now input) (now out) × (remembers (stage .kind) ≡ false) ⌝ }
-    ensures { λ r. ⌜ Serves format stage stage (framesOf (format .channels) (now (input .entry))) r (now (out .entry)) (now (out .exit)) ⌝ }
-{
-    let kind = stage.kind;
-    match kind {
-        StageKind::Gain(g) => {
-            g.process(input, out);
-            input.len()
-        }
-        StageKind::MonoToStereo => {
-            channels::mono_to_stereo(input, out);
-            input.len() * 2
-        }
-        StageKind::StereoToMono => {
-            channels::stereo_to_mono(input, out);
-            input.len() / 2
-        }
-        StageKind::Resample(_) => 0,
-        StageKind::DcBlock(_) => 0,
-        StageKind::Biquad(_) => 0,
-    }
-}
-
-// The turn of a stage that remembers sound: what it makes of `input` stands at the front of `out`.
-pub fn apply(format: PcmFormat, stage: Stage, input: &[u8], out: &mut [u8]) -> Applied
-    requires { ⌜ Served format stage (now input) (now out) × (remembers (stage .kind) ≡ true) ⌝ }
-    ensures { λ r. ⌜ Serves format stage (r .stage) (framesOf (format .channels) (now (input .entry))) (r .len) (now (out .entry)) (now (out .exit)) ⌝ }
-{
-    let kind = stage.kind;
-    let memory = stage.memory;
-    let filter = memory.filter;
-    let state = memory.resampler;
-    let resampler = held_samples(state);
-    let channels = format.channels as usize;
-    match kind {
-        StageKind::Gain(_) => Applied { stage, len: 0 },
-        StageKind::MonoToStereo => Applied { stage, len: 0 },
-        StageKind::StereoToMono => Applied { stage, len: 0 },
-        StageKind::Resample(r) => {
-            let t = r.process(resampler, channels, input, out);
-            let next = t.state;
-            let memory = SoundMemory {
-                filter,
-                resampler: next,
-            };
-            Applied {
-                stage: Stage { kind, memory },
-                len: t.frames * (channels * 2),
-            }
-        }
-        StageKind::DcBlock(b) => {
-            let next = b.process(input, out, channels, filter);
-            filter_applied(kind, next, state, input.len())
-        }
-        StageKind::Biquad(b) => {
-            let next = b.process(input, out, channels, filter);
-            filter_applied(kind, next, state, input.len())
-        }
-    }
-}
-
-// A filter after its turn.
-fn filter_applied(
-    kind: StageKind,
-    filter: FilterMemory,
-    resampler: ResamplerState,
-    len: usize,
-) -> Applied
-    ensures { λ r. ⌜ r ≡ record { stage = record { kind = kind; memory = record { filter = filter; resampler = resampler } }; len = len } ⌝ }
-{
-    let memory = SoundMemory { filter, resampler };
-    Applied {
-        stage: Stage { kind, memory },
-        len,
     }
 }

@@ -1,7 +1,7 @@
 -- `block::last_half` meets its contract. Assumes nothing.
 use borrow.Author.Needs.{needs}
 use borrow.Author.Tests.{eq-eqb, ne-eqb}
-use mathlib.Core.Path.{_≡_, refl, sym, ap, _∙_}
+use mathlib.Core.Path.{_≡_, refl, ap, _∙_}
 use Prim.Native.Nat.{ℕ, zero, suc, _-_, _%_}
 use native.Mathlib.Omega.{arith}
 use Rattle.block.specs.declared.Half.the-variants.{A, B}

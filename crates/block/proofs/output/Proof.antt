@@ -1,6 +1,5 @@
 -- `block::output` meets its contract. Assumes nothing.
 use borrow.Author.Needs.{needs}
-use mathlib.Core.Path.{_≡_}
 use Rattle.block.proofs.output.Statement.{statement}
 use Rattle.block.proofs.output.Tie as tie
 

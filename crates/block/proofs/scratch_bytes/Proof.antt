@@ -1,52 +1,70 @@
 -- `block::scratch_bytes` meets its contract. Assumes nothing.
 use borrow.Author.Needs.{needs}
-use mathlib.Core.Path.{_≡_, refl, sym, ap, _∙_}
-use Prim.Native.Nat.{ℕ, _*_, _/_, _≤_, _<_}
+use borrow.Author.Tests.{not-true, not-false}
+use mathlib.Core.Path.{_≡_, sym, ap, _∙_}
+use mathlib.Core.Bool.{true}
+use Prim.Native.Nat.{_-_, _*_}
 use native.Mathlib.Omega.{arith}
-use Rattle.pcm.specs.declared.Error.{Error}
-use Rattle.pcm.specs.declared.Verdict.the-variants.{Accepted, Refused}
-use Rattle.pipeline.specs.declared.Pipeline.{Pipeline}
-use Rattle.block.specs.declared.Scratch.the-variants as scratch
-use Rattle.block.specs.BlockCall.{stagesOf, sizeAsked, larger, largest, scratchBytes}
-use Rattle.block.specs.Bounds.{larger-least}
-use Rattle.block.proofs.Asking.{Sized, sized, frame-some, small}
+use lib.ListN.{length}
+use Rattle.pcm.specs.declared.Verdict.{Verdict}
+use Rattle.block.specs.declared.questions.Question.the-variants.{AnyState}
+use Rattle.block.specs.declared.questions.Walk.{Walk}
+use Rattle.block.specs.BlockCall.{stagesOf, scratchAnswer, scratchBytes}
+use Rattle.block.specs.Walk.{headLegal, sizedFrom, begun, walked}
+use Rattle.block.specs.Walking.{scratch-is, scratch-refused}
+use Rattle.block.proofs.Lengths.{unmapped}
+use Rattle.block.proofs.Asking.{Asks, head-parts, asks-first, asks-fits, asks-next, asks-end}
 use Rattle.block.proofs.scratch_bytes.Statement.{statement}
 use Rattle.block.proofs.scratch_bytes.Tie as tie
 
-module _ (c : Pipeline) (size : ℕ) where
-  refused : (e : Error) → sizeAsked c size Accepted ≡ Refused e → scratch.Refused e ≡ scratchBytes c size
-  unfolding scratchBytes
-  refused e h = rw h
+abbrev Inv-loop : tie.InvT-loop
+Inv-loop size chain own count walk₀ i₀ walk i = Asks AnyState size (own .rate) (chain .stages) count walk₀ walk i
 
-  answered : sizeAsked c size Accepted ≡ Accepted → (b l m : ℕ) → b ≡ c .format .channels * 2 → l ≡ largest (c .format) (stagesOf c) (size / b) → m ≡ larger size l → scratch.Bytes (2 * m) ≡ scratchBytes c size
-  unfolding scratchBytes
-  answered h b l m p q r = rw (h, r, q, p)
+abbrev μ-loop : tie.MeasureT-loop
+μ-loop size chain own count walk₀ i₀ walk i = count - i
 
-sized-here : (c : tie.After-enum-told) → let s = c .before .before .before in Sized (s .args .chain) (s .args .size)
-sized-here c = let s = c .before .before .before in sized (s .args .chain) (s .args .size) Accepted (sym (c .before .before .size-question .ensures) ∙ c .enum-told .given .1)
+module _ (c : tie.After-begun Inv-loop μ-loop) where
+  abbrev s : tie.Start Inv-loop μ-loop
+  s = c .before .before .before .before
+
+  head : headLegal (s .args .t1 .format) (s .args .t1 .count) ≡ true
+  head = sym (c .before .before .head-legal .ensures) ∙ not-false _ (c .before .if1 .left)
+
+  eight : length (s .args .t1 .stages) ≡ 8
+  eight = search (unmapped, needs)
+
+answers : (v : tie.After-sized Inv-loop μ-loop) → let b = v .before .before .before in let a = s b .args in
+    scratchAnswer (v .sized .result) (2 * v .before .before .loop .walk .largest) ≡ scratchBytes (a .t1) (a .size)
+answers v =
+    let l = v .before .before in
+    let b = l .before in
+    let a = s b .args in
+    ap (λ (x : Verdict). scratchAnswer x (2 * l .loop .walk .largest)) (v .sized .ensures)
+    ∙ ap (λ (w : Walk). scratchAnswer (sizedFrom (a .t1 .format) (a .size) w) (2 * w .largest))
+    (asks-end _ _ _ _ _ _ _ _ (l .loop .inv) (v .before .loop-test .left) ∙ ap (λ (w : Walk). walked AnyState (a .size) w (stagesOf (a .t1))) (b .begun .ensures))
+    ∙ scratch-is (a .t1) (a .size) (head b)
 
 pub scratch-bytes-spec : {M : Type 1} → statement M
-scratch-bytes-spec =
-    tie.close
-    (tie.spec
+scratch-bytes-spec = tie.close (tie.spec
+    Inv-loop
+    μ-loop
     (λ c κs. search needs)
+    (λ c. scratch-refused _ _ (sym (c .before .head-legal .ensures) ∙ not-true _ (c .if1 .taken)))
+    (λ c κs. let a = c .before .before .before .args in head-parts (a .t1 .format) (a .t1 .count) (sym (c .before .head-legal .ensures) ∙ not-false _ (c .if1 .left)) .channels)
+    (λ c. asks-first _ _ _ _ _ _ _ _ (head c) (eight c) (c .begun .ensures))
     (λ c. search needs)
     (λ c. search needs)
-    (λ c κs. search needs)
+    (λ c κs. asks-fits _ _ _ _ _ _ _ _ (c .before .before .loop .inv) (c .before .loop-test .taken))
+    (λ c. search needs)
+    (λ c. search needs)
+    (λ c. asks-next _ _ _ _ _ _ _ _ (c .before .before .before .loop .inv) (c .before .before .loop-test .taken) _ (c .asked .ensures))
+    (λ c κs. let a = s (c .before .before) .args in head-parts (a .t1 .format) (a .t1 .count) (head (c .before .before)) .channels .0)
+    (λ c. search needs)
+    (λ c. search needs)
+    (λ c. record { fits = omega (arith, c .before .before .before .before .before .loop .inv .within .largest) })
     (λ c.
-    let s = c .before .before .before .before .before in
-    omega (arith, frame-some (s .args .chain) (s .args .size) (sized-here (c .before .before)) _ (c .frame-bytes .ensures)))
-    (λ c κs. let z = sized-here (c .before .before) in (z .legal-is, rw (c .frame-bytes .ensures) (z .most)))
-    (λ c κs. search needs)
+    let v = c .before .before .before in
+    ap (λ (x : Verdict). scratchAnswer x (2 * v .before .before .loop .walk .largest)) (sym (c .before .asked2 .given .1)) ∙ answers v)
     (λ c.
-    let s = c .before .before .before .before .before .before .before in
-    let m : c .larger-of .result ≤ 3688000000000000000 =
-    rw (c .larger-of .ensures) (larger-least _ _ 3688000000000000000 (omega (arith, small (s .args .chain) (s .args .size) (sized-here (c .before .before .before .before)))) (c .before .largest-room .ensures .1)) in
-    record { fits = omega arith })
-    (λ c.
-    let s = c .before .before .before .before in
-    refused (s .args .chain) (s .args .size) _ (sym (c .before .before .before .size-question .ensures) ∙ c .before .asked .given .1))
-    (λ c.
-    let s = c .before .before .before .before .before .before .before in
-    answered (s .args .chain) (s .args .size) (sym (c .before .before .before .before .before .before .size-question .ensures) ∙ c .before .before .before .before .enum-told .given .1) _ _ _
-    (c .before .before .frame-bytes .ensures) (c .before .largest-room .ensures .0) (c .larger-of .ensures)))
+    let v = c .before .before .before in
+    ap (λ (x : Verdict). scratchAnswer x (2 * v .before .before .loop .walk .largest)) (sym (c .before .enum-told .given .1)) ∙ answers v))

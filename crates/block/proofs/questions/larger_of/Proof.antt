@@ -1,0 +1,16 @@
+-- `block::larger_of` meets its contract. Assumes nothing.
+use borrow.Author.Tests.{le-leb, lt-leb}
+use Rattle.block.specs.BlockCall.{larger}
+use Rattle.block.proofs.questions.larger_of.Statement.{statement}
+use Rattle.block.proofs.questions.larger_of.Tie as tie
+
+second : tie.Need-returns
+unfolding larger
+second c = simp (le-leb _ _ (c .if1 .taken))
+
+first : tie.Need-returns-2
+unfolding larger
+first c = simp (lt-leb _ _ (c .if1 .left))
+
+pub larger-of-spec : {M : Type 1} → statement M
+larger-of-spec = tie.close (tie.spec second first)
