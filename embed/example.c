@@ -3,6 +3,7 @@
  * first argument, if there is one. */
 #include "muzgleur.h"
 
+#include <stdbool.h>
 #include <stdio.h>
 #include <string.h>
 
@@ -27,15 +28,17 @@ static void made_up(uint8_t *sound, size_t frames, uint64_t from) {
 }
 
 static uint8_t sound[MOST_BYTES], a[ROOM / 2], b[ROOM / 2];
+static uint32_t chain[MUZGLEUR_CHAIN_WORDS];
 
-/* Blocks cut anyhow; the chain after them. */
-static muzgleur_chain run_blocks(muzgleur_chain chain, FILE *out) {
+enum { WORDS = MUZGLEUR_CHAIN_WORDS };
+
+/* Blocks cut anyhow. */
+static void run_blocks(FILE *out) {
     static const size_t frames[] = {480, 480, 1, 479, 1, 1, 480};
     uint64_t at = 0;
     for (size_t i = 0; i < sizeof frames / sizeof *frames; i++) {
         made_up(sound, frames[i], at);
-        muzgleur_block_result done = muzgleur_block(chain, 48000, 1, at, sound, 2 * frames[i], a, sizeof a, b, sizeof b);
-        chain = done.chain;
+        muzgleur_block_result done = muzgleur_block(chain, WORDS, 48000, 1, at, sound, 2 * frames[i], a, sizeof a, b, sizeof b);
         at += frames[i];
         if (done.outcome == MUZGLEUR_REFUSED) {
             printf("%3zu frames in, refused: %u, needed %zu\n", frames[i], done.number, done.needed);
@@ -46,30 +49,33 @@ static muzgleur_chain run_blocks(muzgleur_chain chain, FILE *out) {
             if (out) fwrite(done.half ? b : a, 1, done.len, out);
         }
     }
-    return chain;
 }
 
 /* Calls that are refused; the chain stays as it was. */
-static void show_refusals(muzgleur_chain chain) {
-    muzgleur_block_result tight = muzgleur_block(chain, 48000, 1, 0, sound, MOST_BYTES, a, 100, b, sizeof b);
+static bool show_refusals(void) {
+    uint32_t before[WORDS];
+    memcpy(before, chain, sizeof chain);
+    muzgleur_block_result tight = muzgleur_block(chain, WORDS, 48000, 1, 0, sound, MOST_BYTES, a, 100, b, sizeof b);
     printf("a half of 100 bytes: refused %u, needed %zu\n", tight.number, tight.needed);
-    muzgleur_block_result odd = muzgleur_block(chain, 48000, 1, 0, sound, 3, a, sizeof a, b, sizeof b);
+    muzgleur_block_result odd = muzgleur_block(chain, WORDS, 48000, 1, 0, sound, 3, a, sizeof a, b, sizeof b);
     printf("a block of 3 bytes: refused %u\n", odd.number);
-    muzgleur_write_result written = muzgleur_write_recipe(chain, a, 10);
+    muzgleur_block_result few = muzgleur_block(chain, WORDS - 1, 48000, 1, 0, sound, MOST_BYTES, a, sizeof a, b, sizeof b);
+    printf("one word too few: refused %u\n", few.number);
+    muzgleur_write_result written = muzgleur_write_recipe(chain, WORDS, a, 10);
     printf("a recipe to 10 bytes: refused %u, needed %zu\n", written.number, written.needed);
+    return memcmp(before, chain, sizeof chain) == 0;
 }
 
 int main(int argc, char **argv) {
-    muzgleur_open_result opened = muzgleur_open(48000, 1, RECIPE, sizeof RECIPE);
-    if (opened.number != 0) {
-        fprintf(stderr, "opening refused: %u\n", opened.number);
+    uint16_t refusal = muzgleur_open(48000, 1, RECIPE, sizeof RECIPE, chain, WORDS);
+    if (refusal != 0) {
+        fprintf(stderr, "opening refused: %u\n", refusal);
         return 1;
     }
-    muzgleur_chain chain = opened.chain;
-    muzgleur_format format = muzgleur_output_format(chain);
-    printf("%zu stages, %u Hz to %u Hz\n", chain.count, chain.rate, format.rate);
+    muzgleur_format format = muzgleur_output_format(chain, WORDS);
+    printf("48000 Hz to %u Hz\n", format.rate);
 
-    muzgleur_scratch_result scratch = muzgleur_scratch_bytes(chain, MOST_BYTES);
+    muzgleur_scratch_result scratch = muzgleur_scratch_bytes(chain, WORDS, MOST_BYTES);
     if (scratch.number != 0 || scratch.value > ROOM) {
         fprintf(stderr, "halves too short: refusal %u, %zu bytes wanted\n", scratch.number, scratch.value);
         return 1;
@@ -80,15 +86,17 @@ int main(int argc, char **argv) {
         perror(argv[1]);
         return 1;
     }
-    chain = run_blocks(chain, out);
+    run_blocks(out);
     if (out) fclose(out);
-    show_refusals(chain);
+    bool kept = show_refusals();
+    printf("after the refusals the chain is %s\n", kept ? "as it was" : "altered");
 
-    muzgleur_write_result written = muzgleur_write_recipe(chain, a, sizeof a);
+    muzgleur_write_result written = muzgleur_write_recipe(chain, WORDS, a, sizeof a);
     bool same = written.len == sizeof RECIPE && memcmp(a, RECIPE, sizeof RECIPE) == 0;
     printf("recipe written back %s\n", same ? "unchanged" : "otherwise");
 
-    chain = muzgleur_reset(chain);
-    printf("%llu blocks, %llu of them empty\n", (unsigned long long)chain.blocks, (unsigned long long)chain.empty_blocks);
-    return same ? 0 : 1;
+    muzgleur_reset(chain, WORDS);
+    muzgleur_counter_result counters = muzgleur_counters(chain, WORDS);
+    printf("%llu blocks, %llu of them empty\n", (unsigned long long)counters.blocks, (unsigned long long)counters.empty_blocks);
+    return same && kept ? 0 : 1;
 }

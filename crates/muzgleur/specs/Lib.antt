@@ -1,2 +1,3 @@
-pub mod FlatChain
 pub mod Results
+pub mod Stands
+pub mod Opened

@@ -1,28 +1,22 @@
-// The static library for programs in C and Rust: the proved calls on a chain of plain numbers. None requires anything of its caller.
+// The static library for programs in C and Rust: the proved calls on a chain that the caller keeps as plain words. None requires anything of its caller.
 ghost use mathlib.Core.Path.{_≡_};
+ghost use Prim.Native.Nat.{_≤_};
+ghost use lib.ListN.{length};
 ghost use Rattle.pipeline.specs.Opening.{openCall};
 ghost use Rattle.pipeline.specs.Reset.{outputFormat, resetCall};
 ghost use Rattle.pipeline.specs.WritingBack.{writeCall};
 ghost use Rattle.block.specs.BlockCall.{blockCall, scratchBytes};
-ghost use Rattle.muzgleur.specs.FlatChain.{flatChain, chainOf};
-ghost use Rattle.muzgleur.specs.Results.{openResult, halfNumber, silent, blockResult, blockOutcome, formatOf, scratchResult, writeResult};
+ghost use Rattle.chain_words.specs.Layout.{stands, chainOfWords};
+ghost use Rattle.muzgleur.specs.Results.{openOutcome, halfNumber, silent, blockResult, blockOutcome, FewAfter, HeldAfter, wordsAfter, resetOutcome, counterResult, formatOf, scratchResult, writeResult};
 use block::Answer;
 use block::Half;
 use block::Scratch;
-use flat::Chain;
 use pcm::PcmFormat;
+use pcm::Verdict;
 use pipeline::Pipeline;
 use pipeline::WriteAnswer;
 
-mod flat;
-
 // In each, `number` is 0 or the refusal's, and a value that there is not is 0.
-#[repr(C)]
-pub struct OpenResult {
-    pub number: u16,
-    pub chain: Chain,
-}
-
 // outcome: 0 refused, 1 sound, 2 nothing yet. half: 0 is a, 1 is b.
 #[repr(C)]
 pub struct BlockResult {
@@ -34,7 +28,13 @@ pub struct BlockResult {
     pub timestamp: u64,
     pub half: u8,
     pub len: usize,
-    pub chain: Chain,
+}
+
+#[repr(C)]
+pub struct CounterResult {
+    pub number: u16,
+    pub blocks: u64,
+    pub empty_blocks: u64,
 }
 
 #[repr(C)]
@@ -56,18 +56,24 @@ pub struct WriteResult {
     pub len: usize,
 }
 
-// The chain of a recipe; one of no stages where it was refused.
+// The chain of a recipe at the front of the words. A refusal, too few words among them, alters none.
 #[no_mangle]
-pub extern "C" fn muzgleur_open(rate: u32, channels: u16, recipe: &[u8]) -> OpenResult
-    ensures { λ r. ⌜ r ≡ openResult (openCall (record { rate = rate; channels = channels }) (now (recipe .entry))) ⌝ }
+pub extern "C" fn muzgleur_open(rate: u32, channels: u16, recipe: &[u8], chain: &mut [u32]) -> u16
+    ensures all { λ r. ⌜ record { number = r; words = now (chain .exit) } ≡ openOutcome (now (chain .entry)) (openCall (record { rate = rate; channels = channels }) (now (recipe .entry))) ⌝ }
+    ensures chain { λ r. ⌜ (r ≡ 0 → chainOfWords (now (chain .exit)) ≡ openCall (record { rate = rate; channels = channels }) (now (recipe .entry)) .chain) ⌝ }
 {
+    if chain.len() < chain_words::CHAIN_WORDS {
+        return 1;
+    }
     let opened = Pipeline::open(PcmFormat { rate, channels }, recipe);
     let verdict = opened.verdict;
     let made = opened.chain;
-    let chain = flat::flat(made);
-    OpenResult {
-        number: verdict.number(),
-        chain,
+    match verdict {
+        Verdict::Accepted => {
+            chain_words::put_chain(chain, made);
+            0
+        }
+        Verdict::Refused(e) => e.number(),
     }
 }
 
@@ -81,8 +87,8 @@ fn half_number(half: Half) -> u8
 }
 
 // A call that brought no sound.
-fn silent(number: u16, outcome: u8, needed: usize, chain: Chain) -> BlockResult
-    ensures { λ r. ⌜ r ≡ silent number outcome needed chain ⌝ }
+fn silent(number: u16, outcome: u8, needed: usize) -> BlockResult
+    ensures { λ r. ⌜ r ≡ silent number outcome needed ⌝ }
 {
     BlockResult {
         number,
@@ -93,13 +99,12 @@ fn silent(number: u16, outcome: u8, needed: usize, chain: Chain) -> BlockResult
         timestamp: 0,
         half: 0,
         len: 0,
-        chain,
     }
 }
 
-// The numbers of an answer; `next` is the chain after it.
-fn block_result(chain: Chain, answer: Answer, next: Chain) -> BlockResult
-    ensures { λ r. ⌜ r ≡ blockResult chain answer next ⌝ }
+// The numbers of an answer.
+fn block_result(answer: Answer) -> BlockResult
+    ensures { λ r. ⌜ r ≡ blockResult answer ⌝ }
 {
     match answer {
         Answer::Output {
@@ -116,17 +121,34 @@ fn block_result(chain: Chain, answer: Answer, next: Chain) -> BlockResult
             timestamp,
             half: half_number(half),
             len,
-            chain: next,
         },
-        Answer::NothingYet => silent(0, 2, 0, next),
-        Answer::Refused(e) => silent(e.number(), 0, e.needed(), chain),
+        Answer::NothingYet => silent(0, 2, 0),
+        Answer::Refused(e) => silent(e.number(), 0, e.needed()),
     }
 }
 
-// The output, where there is one, stands at the front of the half named. A refusal alters nothing.
+// What an accepted call alters, to the words; a refusal alters none.
+fn keep(chain: &mut [u32], answer: Answer, after: Pipeline)
+    requires { ⌜ (152 ≤ length (now chain)) × FewAfter answer after ⌝ }
+    ensures { λ _. ⌜ (now (chain .exit) ≡ wordsAfter (now (chain .entry)) answer after) × HeldAfter answer after ⌝ }
+{
+    match answer {
+        Answer::Output {
+            format: _,
+            timestamp: _,
+            half: _,
+            len: _,
+        } => chain_words::put_sound(chain, after),
+        Answer::NothingYet => chain_words::put_sound(chain, after),
+        Answer::Refused(_) => {}
+    }
+}
+
+// The output, where there is one, stands at the front of the half named, and the words stand for the chain afterwards. A refusal
+// alters nothing. Words that stand for no chain, too few among them, are 1.
 #[no_mangle]
 pub extern "C" fn muzgleur_block(
-    chain: Chain,
+    chain: &mut [u32],
     rate: u32,
     channels: u16,
     timestamp: u64,
@@ -134,30 +156,56 @@ pub extern "C" fn muzgleur_block(
     a: &mut [u8],
     b: &mut [u8],
 ) -> BlockResult
-    ensures { λ r. ⌜ record { result = r; a = now (a .exit); b = now (b .exit) } ≡ blockOutcome chain (blockCall (chainOf chain) (record { rate = rate; channels = channels }) timestamp (now (sound .entry)) (now (a .entry)) (now (b .entry))) ⌝ }
+    ensures all { λ r. ⌜ record { result = r; words = now (chain .exit); a = now (a .exit); b = now (b .exit) } ≡ blockOutcome (now (chain .entry)) (blockCall (chainOfWords (now (chain .entry))) (record { rate = rate; channels = channels }) timestamp (now (sound .entry)) (now (a .entry)) (now (b .entry))) ⌝ }
+    ensures chain { λ _. ⌜ chainOfWords (now (chain .exit)) ≡ blockCall (chainOfWords (now (chain .entry))) (record { rate = rate; channels = channels }) timestamp (now (sound .entry)) (now (a .entry)) (now (b .entry)) .chain ⌝ }
 {
-    let own = flat::chain_of(chain);
+    if chain.len() < chain_words::CHAIN_WORDS {
+        return silent(1, 0, 0);
+    }
+    let own = chain_words::chain_of(chain);
     let format = PcmFormat { rate, channels };
     let done = block::process(own, format, timestamp, sound, a, b);
     let after = done.chain;
-    let next = flat::flat(after);
     let answer = done.answer;
-    block_result(chain, answer, next)
+    keep(chain, answer, after);
+    block_result(answer)
 }
 
+// The sound memory cleared, the counters left alone. Words that stand for no chain are 1, and stay.
 #[no_mangle]
-pub extern "C" fn muzgleur_reset(chain: Chain) -> Chain
-    ensures { λ r. ⌜ r ≡ flatChain (resetCall (chainOf chain)) ⌝ }
+pub extern "C" fn muzgleur_reset(chain: &mut [u32]) -> u16
+    ensures all { λ r. ⌜ record { number = r; words = now (chain .exit) } ≡ resetOutcome (now (chain .entry)) ⌝ }
+    ensures chain { λ _. ⌜ chainOfWords (now (chain .exit)) ≡ resetCall (chainOfWords (now (chain .entry))) ⌝ }
 {
-    flat::flat(flat::chain_of(chain).reset())
+    if chain_words::stand(chain) {
+        let own = chain_words::chain_of(chain);
+        let after = own.reset();
+        chain_words::put_sound(chain, after);
+        return 0;
+    }
+    1
 }
 
-// The format that leaves the last stage.
+// How many blocks were accepted, and how many of them brought nothing.
 #[no_mangle]
-pub extern "C" fn muzgleur_output_format(chain: Chain) -> Format
-    ensures { λ r. ⌜ r ≡ formatOf (outputFormat (chainOf chain)) ⌝ }
+pub extern "C" fn muzgleur_counters(chain: &[u32]) -> CounterResult
+    ensures { λ r. ⌜ r ≡ counterResult (stands (now (chain .entry))) (chainOfWords (now (chain .entry))) ⌝ }
 {
-    let format = flat::chain_of(chain).output_format();
+    let own = chain_words::chain_of(chain);
+    let number = if chain_words::stand(chain) { 0 } else { 1 };
+    CounterResult {
+        number,
+        blocks: own.blocks,
+        empty_blocks: own.empty_blocks,
+    }
+}
+
+// The format that leaves the last stage; zeros where the words stand for no chain.
+#[no_mangle]
+pub extern "C" fn muzgleur_output_format(chain: &[u32]) -> Format
+    ensures { λ r. ⌜ r ≡ formatOf (outputFormat (chainOfWords (now (chain .entry)))) ⌝ }
+{
+    let format = chain_words::chain_of(chain).output_format();
     Format {
         rate: format.rate,
         channels: format.channels,
@@ -166,10 +214,10 @@ pub extern "C" fn muzgleur_output_format(chain: Chain) -> Format
 
 // Bytes of both halves together that any block of `size` bytes finds enough.
 #[no_mangle]
-pub extern "C" fn muzgleur_scratch_bytes(chain: Chain, size: usize) -> ScratchResult
-    ensures { λ r. ⌜ r ≡ scratchResult (scratchBytes (chainOf chain) size) ⌝ }
+pub extern "C" fn muzgleur_scratch_bytes(chain: &[u32], size: usize) -> ScratchResult
+    ensures { λ r. ⌜ r ≡ scratchResult (scratchBytes (chainOfWords (now (chain .entry))) size) ⌝ }
 {
-    let answer = block::scratch_bytes(flat::chain_of(chain), size);
+    let answer = block::scratch_bytes(chain_words::chain_of(chain), size);
     match answer {
         Scratch::Bytes(value) => ScratchResult { number: 0, value },
         Scratch::Refused(e) => ScratchResult {
@@ -198,10 +246,10 @@ fn write_result(answer: WriteAnswer) -> WriteResult
 
 // The recipe's bytes at the front of out; bytes past them stay.
 #[no_mangle]
-pub extern "C" fn muzgleur_write_recipe(chain: Chain, out: &mut [u8]) -> WriteResult
-    ensures { λ r. ⌜ (r ≡ writeResult (writeCall (chainOf chain) (now (out .entry)) .answer)) × (now (out .exit) ≡ writeCall (chainOf chain) (now (out .entry)) .out) ⌝ }
+pub extern "C" fn muzgleur_write_recipe(chain: &[u32], out: &mut [u8]) -> WriteResult
+    ensures { λ r. ⌜ (r ≡ writeResult (writeCall (chainOfWords (now (chain .entry))) (now (out .entry)) .answer)) × (now (out .exit) ≡ writeCall (chainOfWords (now (chain .entry))) (now (out .entry)) .out) ⌝ }
 {
-    let own = flat::chain_of(chain);
+    let own = chain_words::chain_of(chain);
     let answer = own.write_recipe(out);
     write_result(answer)
 }

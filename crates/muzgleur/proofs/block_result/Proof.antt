@@ -3,12 +3,6 @@ use borrow.Author.Needs.{needs}
 use Rattle.muzgleur.proofs.block_result.Statement.{statement}
 use Rattle.muzgleur.proofs.block_result.Tie as tie
 
-returns : tie.Need-returns
-returns c = rw (c .before .before .answer .given .1, c .half-number .ensures)
-
-returns-2 : tie.Need-returns-2
-returns-2 c = rw (c .before .enum-told .given .1) (c .silent .ensures)
-
 returns-3 : tie.Need-returns-3
 returns-3 c =
     let n = c .before .before in
@@ -24,6 +18,6 @@ block-result-spec = tie.close (tie.spec
     (λ c κs. search needs)
     (λ c κs. search needs)
     (λ c κs. search needs)
-    returns
-    returns-2
+    (λ c. rw (c .before .before .answer .given .1, c .half-number .ensures))
+    (λ c. rw (c .before .enum-told .given .1) (c .silent .ensures))
     returns-3)

@@ -4,12 +4,12 @@ use Rattle.muzgleur.proofs.muzgleur_scratch_bytes.Statement.{statement}
 use Rattle.muzgleur.proofs.muzgleur_scratch_bytes.Tie as tie
 
 returns : tie.Need-returns
-returns c = let s = c .before .before .before in rw (← s .before .chain-of .ensures, ← s .scratch-bytes .ensures, c .before .answer .given .1)
+returns c = let s = c .before .before .before in rw (← s .before .chain-of .ensures .0, ← s .scratch-bytes .ensures, c .before .answer .given .1)
 
 returns-2 : tie.Need-returns-2
 returns-2 c =
     let s = c .before .before .before .before in
-    rw (← s .before .chain-of .ensures, ← s .scratch-bytes .ensures, c .before .before .answer2 .given .1, c .number .ensures)
+    rw (← s .before .chain-of .ensures .0, ← s .scratch-bytes .ensures, c .before .before .answer2 .given .1, c .number .ensures)
 
 pub muzgleur-scratch-bytes-spec : {M : Type 1} → statement M
 muzgleur-scratch-bytes-spec = tie.close (tie.spec
