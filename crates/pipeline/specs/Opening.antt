@@ -38,20 +38,20 @@ settingsAllowed (rec.DcBlock corner) = true
 settingsAllowed (rec.Biquad rate bits) = rateAllowed rate
 
 -- does the channel count that reaches the stage suit it, and does the rate equal a resampler's input rate or a biquad's rate?
-abbrev pub suits : PcmFormat → Record → Bool
-suits f (rec.Gain q15) = true
-suits f rec.MonoToStereo = eqb (f .channels) 1
-suits f rec.StereoToMono = eqb (f .channels) 2
-suits f (rec.Resample input output) = eqb (f .rate) input
-suits f (rec.DcBlock corner) = true
-suits f (rec.Biquad rate bits) = eqb (f .rate) rate
+abbrev pub recordSuits : PcmFormat → Record → Bool
+recordSuits f (rec.Gain q15) = true
+recordSuits f rec.MonoToStereo = eqb (f .channels) 1
+recordSuits f rec.StereoToMono = eqb (f .channels) 2
+recordSuits f (rec.Resample input output) = eqb (f .rate) input
+recordSuits f (rec.DcBlock corner) = true
+recordSuits f (rec.Biquad rate bits) = eqb (f .rate) rate
 
 -- is it among the first eight, where so many more are allowed? else 8. Are gain and rates within their limits? else 9. Does the format suit it? else 2.
 unfoldable pub stageVerdict : ℕ → PcmFormat → Record → Verdict
 stageVerdict more f r =
     ask (ltb 0 more) TooManyStages
     (ask (settingsAllowed r) SettingOutOfRange
-    (ask (suits f r) Unsupported
+    (ask (recordSuits f r) Unsupported
     verdict.Accepted))
 
 -- the stage of a record. The DC pole is worked out at the rate that reaches it

@@ -22,7 +22,7 @@ use Rattle.recipe.specs.declared.Record.the-variants as rec
 use Rattle.recipe.specs.declared.RecordAnswer.the-variants as read
 use Rattle.recipe.specs.Records.{recordAt, recordVerdict, readRecord, answered}
 use Rattle.pipeline.specs.declared.opening.StageAnswer.the-variants as answer
-use Rattle.pipeline.specs.Opening.{opened, refused, settingsAllowed, suits, stageVerdict, stageKindOf, answerOf, stageAnswer, front, nextKind, afterNext, openStages}
+use Rattle.pipeline.specs.Opening.{opened, refused, settingsAllowed, recordSuits, stageVerdict, stageKindOf, answerOf, stageAnswer, front, nextKind, afterNext, openStages}
 
 no-way : {X : Type 0} → _≡_ {A = ℕ} 0 1 → X
 no-way e = absurd (let z : ⊥ = omega arith in z)
@@ -64,12 +64,12 @@ module _ (more : ℕ) (f : PcmFormat) (r : Record) where
   asked-yes false e v h = no-way (cc)
 
   -- a stage that is taken is among the first eight, within its limits, and suits the format
-  pub stage-fits : stageVerdict more f r ≡ Accepted → (0 < more) × (settingsAllowed r ≡ true) × (suits f r ≡ true)
+  pub stage-fits : stageVerdict more f r ≡ Accepted → (0 < more) × (settingsAllowed r ≡ true) × (recordSuits f r ≡ true)
   unfolding stageVerdict
   stage-fits h =
       let a = asked-yes (ltb 0 more) TooManyStages _ h in
       let b = asked-yes (settingsAllowed r) SettingOutOfRange _ (a .1) in
-      let c = asked-yes (suits f r) Unsupported Accepted (b .1) in
+      let c = asked-yes (recordSuits f r) Unsupported Accepted (b .1) in
       (ltb-true 0 more (a .0), b .0, c .0)
 
 both : (a b : Bool) → (a && b) ≡ true → b ≡ true

@@ -6,7 +6,7 @@ ghost use lib.ListN.{replicate};
 ghost use mathlib.Core.List.{[]};
 ghost use Rattle.pcm.specs.Formats.{rateAllowed};
 ghost use Rattle.resample.specs.Opening.{ratesAllowed, reduced};
-ghost use Rattle.pipeline.specs.Opening.{settingsAllowed, suits, stageKindOf, stageAnswer, verdictOf, unusedStage, chainOf};
+ghost use Rattle.pipeline.specs.Opening.{settingsAllowed, recordSuits, stageKindOf, stageAnswer, verdictOf, unusedStage, chainOf};
 use crate::Opened;
 use crate::Pipeline;
 use biquad::Biquad;
@@ -77,7 +77,7 @@ fn settings_allowed(found: Record) -> bool
 
 // Does the format that reaches the stage suit it?
 fn suits(format: PcmFormat, found: Record) -> bool
-    ensures { λ r. ⌜ r ≡ suits format found ⌝ }
+    ensures { λ r. ⌜ r ≡ recordSuits format found ⌝ }
 {
     match found {
         Record::Gain { q15: _ } => true,

@@ -24,8 +24,7 @@ use Rattle.recipe.specs.declared.Record.{Record}
 use Rattle.recipe.specs.declared.Record.the-variants as rec
 use Rattle.recipe.specs.Records.{recordAt, recordVerdict}
 use Rattle.pipeline.specs.declared.Pipeline.{Pipeline}
-use Rattle.pipeline.specs.Opening as opening
-use Rattle.pipeline.specs.Opening.{Stages, opened, refused, settingsAllowed, stageVerdict, stageKindOf, asked, front, nextKind, afterNext, openStages, unusedStage, chainOf, openedOf, openCall}
+use Rattle.pipeline.specs.Opening.{Stages, opened, refused, settingsAllowed, stageVerdict, stageKindOf, asked, front, nextKind, afterNext, openStages, unusedStage, chainOf, openedOf, openCall, recordSuits}
 use Rattle.pipeline.specs.OpeningLaws.{stage-fits}
 use Rattle.block.specs.BlockCall.{suited}
 use Rattle.stream.specs.Opened.{RatesReduced, Opened, chainAsOpened, opened-with}
@@ -45,7 +44,7 @@ reduced-suit input output h =
     (and-true (and-true (lt-ltb _ _ (k .in-r .0)) (le-leb _ _ (div-le-self input (gcd input output))))
     (and-true (and-true (lt-ltb _ _ (k .out-r .0)) (le-leb _ _ (div-le-self output (gcd input output)))) (eq-eqb _ _ (k .same-ratio))))
 
-kind-suits : (f : PcmFormat) (r : Record) → settingsAllowed r ≡ true → opening.suits f r ≡ true → suits f (stageKindOf f r) memoryAsOpened ≡ true
+kind-suits : (f : PcmFormat) (r : Record) → settingsAllowed r ≡ true → recordSuits f r ≡ true → suits f (stageKindOf f r) memoryAsOpened ≡ true
 unfolding suits reduced
 kind-suits f (rec.Gain q15) h k = h
 kind-suits f rec.MonoToStereo h k = k

@@ -7,7 +7,7 @@ use Prim.Native.Nat.{ℕ, _%_, _≤_}
 use native.Mathlib.Omega.{arith}
 use lib.Dec.{eqb}
 use lib.ListN.{length}
-use Rattle.block.proofs.Playing as play
+use Rattle.block.proofs.Playing.{biquad-turn-asks, biquad-turned, dc-turn-asks, dc-turned, gain-turn-asks, gain-turned, mono-turn-asks, mono-turned, resample-long, resample-turn-asks, resample-turned, stereo-long, stereo-turn-asks, stereo-turned}
 use Rattle.block.proofs.turns.turn.Statement.{statement}
 use Rattle.block.proofs.turns.turn.Tie as tie
 
@@ -27,51 +27,51 @@ turn-spec = tie.close (tie.spec
     (λ c. search needs)
     (λ c. search needs)
     (λ c κs. let t = c .before .before .before in let s = start (t .before .before) in
-    play.gain-turn-asks (s .args .format) (s .args .s) (s .args .i) (s .args .n) (s .args .block .now) _ (s .pre) _ (t .kind .given .1))
+    gain-turn-asks (s .args .format) (s .args .s) (s .args .i) (s .args .n) (s .args .block .now) _ (s .pre) _ (t .kind .given .1))
     (λ c. search needs)
     (λ c κs. let t = c .before .before in let s = start (t .before .before) in
-    play.stereo-turn-asks (s .args .format) (s .args .s) (s .args .i) (s .args .n) (s .args .block .now) _ (s .pre) (t .enum-told .given .1))
+    stereo-turn-asks (s .args .format) (s .args .s) (s .args .i) (s .args .n) (s .args .block .now) _ (s .pre) (t .enum-told .given .1))
     (λ c. let t = c .before .before .before .before .before .before .before in let s = start (t .before .before) in
     ⊎-elim (λ l. record { fits = omega (arith, l, s .good) }) (λ l. record { fits = omega (arith, l, s .good) })
-    (either-half (s .args .i) _ (s .args .a .now) (s .args .b .now) (play.stereo-long (s .args .format) (s .args .s) (s .args .i) (s .args .n) (s .args .block .now) _ (s .pre) (t .enum-told .given .1))))
+    (either-half (s .args .i) _ (s .args .a .now) (s .args .b .now) (stereo-long (s .args .format) (s .args .s) (s .args .i) (s .args .n) (s .args .block .now) _ (s .pre) (t .enum-told .given .1))))
     (λ c. search needs)
     (λ c κs. let t = c .before .before in let s = start (t .before .before) in
-    play.mono-turn-asks (s .args .format) (s .args .s) (s .args .i) (s .args .n) (s .args .block .now) _ (s .pre) (t .enum-told2 .given .1))
+    mono-turn-asks (s .args .format) (s .args .s) (s .args .i) (s .args .n) (s .args .block .now) _ (s .pre) (t .enum-told2 .given .1))
     (λ c. search needs)
     (λ c κs. search needs)
     (λ c κs. let m = c .before .before in let t = m .before .before in let s = start (t .before .before) in
-    play.resample-turn-asks (s .args .format) (s .args .s) (s .args .i) (s .args .n) (s .args .block .now) _ (s .pre) _ _ (t .kind2 .given .1) (m .held-samples .ensures .0) (m .held-samples .ensures .1))
+    resample-turn-asks (s .args .format) (s .args .s) (s .args .i) (s .args .n) (s .args .block .now) _ (s .pre) _ _ (t .kind2 .given .1) (m .held-samples .ensures .0) (m .held-samples .ensures .1))
     (λ c. search needs)
     (λ c. let d = c .before .before .before .before .before .before in let m = d .before .before .before in let t = m .before .before in let s = start (t .before .before) in
     ⊎-elim (λ l. record { fits = omega (arith, l, s .good) }) (λ l. record { fits = omega (arith, l, s .good) })
-    (either-half (s .args .i) _ (s .args .a .now) (s .args .b .now) (play.resample-long (s .args .format) (s .args .s) (s .args .i) (s .args .n) (s .args .block .now) _ (s .pre) _ _ (t .kind2 .given .1) (m .held-samples .ensures .0) (m .held-samples .ensures .1) (d .resample-turn .result) _ (d .resample-turn .ensures))))
+    (either-half (s .args .i) _ (s .args .a .now) (s .args .b .now) (resample-long (s .args .format) (s .args .s) (s .args .i) (s .args .n) (s .args .block .now) _ (s .pre) _ _ (t .kind2 .given .1) (m .held-samples .ensures .0) (m .held-samples .ensures .1) (d .resample-turn .result) _ (d .resample-turn .ensures))))
     (λ c. search needs)
     (λ c κs. let t = c .before .before .before in let s = start (t .before .before) in
-    play.dc-turn-asks (s .args .format) (s .args .s) (s .args .i) (s .args .n) (s .args .block .now) _ (s .pre) _ (t .kind3 .given .1))
+    dc-turn-asks (s .args .format) (s .args .s) (s .args .i) (s .args .n) (s .args .block .now) _ (s .pre) _ (t .kind3 .given .1))
     (λ c. search needs)
     (λ c κs. let t = c .before .before .before in let s = start (t .before .before) in
-    play.biquad-turn-asks (s .args .format) (s .args .s) (s .args .i) (s .args .n) (s .args .block .now) _ (s .pre) _ (t .kind4 .given .1))
+    biquad-turn-asks (s .args .format) (s .args .s) (s .args .i) (s .args .n) (s .args .block .now) _ (s .pre) _ (t .kind4 .given .1))
     (λ c. search needs)
     (λ c. search needs)
     (λ c. let d = c .before .before .before .before in let t = d .before .before .before .before in let s = start (t .before .before) in
-    play.gain-turned (s .args .format) (s .args .s) (s .args .i) (s .args .n) (s .args .block .now) _ (s .pre) _ _ (t .kind .given .1) (d .gain-turn .ensures))
+    gain-turned (s .args .format) (s .args .s) (s .args .i) (s .args .n) (s .args .block .now) _ (s .pre) _ _ (t .kind .given .1) (d .gain-turn .ensures))
     (λ c. search needs)
     (λ c. search needs)
     (λ c. let d = c .before .before .before .before in let t = d .before .before .before in let s = start (t .before .before) in
-    play.stereo-turned (s .args .format) (s .args .s) (s .args .i) (s .args .n) (s .args .block .now) _ (s .pre) _ (t .enum-told .given .1) (d .stereo-turn .ensures))
+    stereo-turned (s .args .format) (s .args .s) (s .args .i) (s .args .n) (s .args .block .now) _ (s .pre) _ (t .enum-told .given .1) (d .stereo-turn .ensures))
     (λ c. search needs)
     (λ c. search needs)
     (λ c. let d = c .before .before .before .before in let t = d .before .before .before in let s = start (t .before .before) in
-    play.mono-turned (s .args .format) (s .args .s) (s .args .i) (s .args .n) (s .args .block .now) _ (s .pre) _ (t .enum-told2 .given .1) (d .mono-turn .ensures))
+    mono-turned (s .args .format) (s .args .s) (s .args .i) (s .args .n) (s .args .block .now) _ (s .pre) _ (t .enum-told2 .given .1) (d .mono-turn .ensures))
     (λ c. search needs)
     (λ c. search needs)
     (λ c. let d = c .before .before .before .before .before .before in let m = d .before .before .before in let t = m .before .before in let s = start (t .before .before) in
-    play.resample-turned (s .args .format) (s .args .s) (s .args .i) (s .args .n) (s .args .block .now) _ (s .pre) _ _ (t .kind2 .given .1) (m .held-samples .ensures .0) (m .held-samples .ensures .1) (d .resample-turn .result) _ (d .resample-turn .ensures))
+    resample-turned (s .args .format) (s .args .s) (s .args .i) (s .args .n) (s .args .block .now) _ (s .pre) _ _ (t .kind2 .given .1) (m .held-samples .ensures .0) (m .held-samples .ensures .1) (d .resample-turn .result) _ (d .resample-turn .ensures))
     (λ c. search needs)
     (λ c. search needs)
     (λ c. let d = c .before .before .before .before in let t = d .before .before .before .before in let s = start (t .before .before) in
-    play.dc-turned (s .args .format) (s .args .s) (s .args .i) (s .args .n) (s .args .block .now) _ (s .pre) _ _ _ (t .kind3 .given .1) (d .dc-turn .ensures))
+    dc-turned (s .args .format) (s .args .s) (s .args .i) (s .args .n) (s .args .block .now) _ (s .pre) _ _ _ (t .kind3 .given .1) (d .dc-turn .ensures))
     (λ c. search needs)
     (λ c. search needs)
     (λ c. let d = c .before .before .before .before in let t = d .before .before .before .before in let s = start (t .before .before) in
-    play.biquad-turned (s .args .format) (s .args .s) (s .args .i) (s .args .n) (s .args .block .now) _ (s .pre) _ _ _ (t .kind4 .given .1) (d .biquad-turn .ensures)))
+    biquad-turned (s .args .format) (s .args .s) (s .args .i) (s .args .n) (s .args .block .now) _ (s .pre) _ _ _ (t .kind4 .given .1) (d .biquad-turn .ensures)))

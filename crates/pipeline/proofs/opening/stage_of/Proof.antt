@@ -6,14 +6,14 @@ use Prim.Native.Nat.{_-_}
 use native.Mathlib.Omega.{arith}
 use borrow.Author.Tests.{lt-ltb, not-true, not-false}
 use lib.Dec.{ltb}
-use Rattle.pipeline.specs.Opening.{stageVerdict, settingsAllowed, suits}
+use Rattle.pipeline.specs.Opening.{stageVerdict, settingsAllowed, recordSuits}
 use Rattle.pipeline.proofs.opening.stage_of.Statement.{statement}
 use Rattle.pipeline.proofs.opening.stage_of.Tie as tie
 
 within : (c : tie.After-settings-allowed) → c .settings-allowed .result ≡ settingsAllowed (c .before .args .found)
 within c = c .settings-allowed .ensures
 
-suited : (c : tie.After-suits) → c .suits .result ≡ suits (c .before .before .args .format) (c .before .before .args .found)
+suited : (c : tie.After-suits) → c .suits .result ≡ recordSuits (c .before .before .args .format) (c .before .before .args .found)
 suited c = c .suits .ensures
 
 -- the answers to the questions so far, where the next is asked
@@ -23,7 +23,7 @@ among c = lt-ltb 0 (8 - c .before .before .before .args .before) (omega arith)
 is-within : (c : tie.Else2) → settingsAllowed (c .before .before .before .before .args .found) ≡ true
 is-within c = sym (within (c .before .before .before)) ∙ not-false _ (c .if2 .left)
 
-is-suited : (c : tie.Else3) → suits (c .before .before .before .before .before .args .format) (c .before .before .before .before .before .args .found) ≡ true
+is-suited : (c : tie.Else3) → recordSuits (c .before .before .before .before .before .args .format) (c .before .before .before .before .before .args .found) ≡ true
 is-suited c = sym (suited (c .before .before .before)) ∙ not-false _ (c .if3 .left)
 
 returns : tie.Need-returns
