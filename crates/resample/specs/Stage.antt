@@ -95,14 +95,14 @@ module _ (i o : ℕ) where
       go true = refl
       go false = sym (past-by-loop (length ys))
 
-  pub count-by-loop : (primed : Bool) (phase n : ℕ) → outputCount i o primed phase n ≡ count i (start o primed phase) (n * o)
-  unfolding outputCount start
-  count-by-loop true phase n = refl
-  count-by-loop false phase n = let e : (n - 1) * o - 0 ≡ n * o - o = sub n in rw e
-    where
-      sub : (n : ℕ) → (n - 1) * o - 0 ≡ n * o - o
-      sub zero = omega arith
-      sub (suc n) = let e : suc n - 1 ≡ n = omega arith in rw e (omega arith)
+pub count-by-loop : (i o : ℕ) (primed : Bool) (phase n : ℕ) → outputCount i o primed phase n ≡ count i (start o primed phase) (n * o)
+unfolding outputCount start
+count-by-loop i o true phase n = refl
+count-by-loop i o false phase n = let e : (n - 1) * o - 0 ≡ n * o - o = sub n in rw e
+  where
+    sub : (n : ℕ) → (n - 1) * o - 0 ≡ n * o - o
+    sub zero = omega arith
+    sub (suc n) = let e : suc n - 1 ≡ n = omega arith in rw e (omega arith)
 
 -- ---- unequal rates
 module _ (r : LinearResampler) (s : ResamplerState) (xs : List Frame) (e : eqb (r .«in_rate») (r .«out_rate») ≡ false) where
