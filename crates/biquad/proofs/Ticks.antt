@@ -2,8 +2,8 @@
 use mathlib.Core.Path.{_≡_}
 use lib.IntN.{ℤ}
 use lib.Ieee.{Float, binary32, ofInt}
-use Rattle.pcm.specs.Filters.{Taps}
-use Rattle.biquad.specs.declared.Coefficients.{Coefficients}
+use Rattle.filters.specs.Filters.{Taps}
+use Rattle.cookbook.specs.declared.Coefficients.{Coefficients}
 use Rattle.biquad.specs.Recurrence.{recurrence, biquadTick}
 
 pub ticked : (k : Coefficients) (t : Taps) {z z′ : ℤ} {y : Float} → y ≡ recurrence k (ofInt binary32 z) (t .x1) (t .x2) (t .y1) (t .y2) → z ≡ z′

@@ -1,2 +1,1 @@
-pub mod Cookbook
 pub mod Recurrence

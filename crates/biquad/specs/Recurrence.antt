@@ -1,9 +1,9 @@
 -- The biquad's recurrence (document 01, biquad.rs): each operation rounded once in binary32, left to right. Definitions only.
 use lib.IntN.{ℤ, pos}
 use lib.Ieee.{Float, binary32, ofInt, ofBits}
-use Rattle.pcm.specs.Floats.{patternOf}
-use Rattle.pcm.specs.Filters.{Taps, plusZero, _⊕_, _⊖_, _⊗_}
-use Rattle.biquad.specs.declared.Coefficients.{Coefficients}
+use Rattle.floats.specs.Floats.{patternOf}
+use Rattle.filters.specs.Filters.{Taps, plusZero, _⊕_, _⊖_, _⊗_}
+use Rattle.cookbook.specs.declared.Coefficients.{Coefficients}
 use Rattle.biquad.specs.declared.CoefficientBits.{CoefficientBits}
 
 -- (((b0 * x + b1 * x1) + b2 * x2) - a1 * y1) - a2 * y2

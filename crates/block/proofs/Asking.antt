@@ -10,13 +10,16 @@ use lib.ListN.{length, take, drop, getD}
 use Rattle.pcm.specs.declared.PcmFormat.{PcmFormat}
 use Rattle.pcm.specs.Formats.{formatAllowed, rateAllowed, channelsAllowed}
 use Rattle.stage.specs.declared.Stage.{Stage}
-use Rattle.stage.specs.Rooms.{both}
-use Rattle.block.specs.declared.questions.Question.{Question}
-use Rattle.block.specs.declared.questions.Walk.{Walk}
-use Rattle.block.specs.Steps.{stage-at, stages-end, drop-zero}
-use Rattle.block.specs.Walk.{headLegal, stepped, begun, walked}
-use Rattle.block.specs.Walking.{Within, few, step-within, begun-within, walked-step, walked-none}
-use Rattle.block.proofs.Counts.{noStage}
+use Rattle.pcm.specs.laws.Tests.{both}
+use Rattle.questions.specs.declared.Question.{Question}
+use Rattle.questions.specs.declared.Walk.{Walk}
+use Rattle.block.proofs.Steps.{stage-at, stages-end, drop-zero}
+use Rattle.questions.specs.Walk.{headLegal, stepped, begun}
+use Rattle.questions.specs.laws.Walk.{walked}
+use Rattle.block.proofs.Walking.{Within, few, step-within, begun-within}
+use Rattle.block.specs.laws.Walking.{walked-none}
+use Rattle.questions.specs.laws.Walking.{walked-step}
+use Rattle.stage.specs.laws.Places.{noStage}
 
 -- what a legal head says
 pub record Head (f : PcmFormat) (count : ℕ) : Type 0 where

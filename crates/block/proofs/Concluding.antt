@@ -19,15 +19,19 @@ use Rattle.pipeline.specs.declared.Pipeline.{Pipeline}
 use Rattle.block.specs.declared.Half.{Half}
 use Rattle.block.specs.declared.Answer.{Answer}
 use Rattle.block.specs.declared.Answer.the-variants as answers
-use Rattle.block.specs.Chain.{chainOut, chainNext, formatLeaving}
-use Rattle.block.specs.BlockCall.{Halves, legal, suited, verdictOf, halvesAfter, stagesOf, shorter, counted, countedChain, answerOf, lastHalf, accepted, concluded, blockCall}
-use Rattle.block.specs.Walk.{headLegal}
-use Rattle.block.specs.Turns.{halves, Accepts, Ended, unstaged, countedIf}
+use Rattle.block.specs.Chain.{chainOut, chainNext}
+use Rattle.pipeline.specs.Reset.{formatLeaving}
+use Rattle.turns.specs.Turns.{Halves, halves}
+use Rattle.block.specs.BlockCall.{legal, suited, blockVerdict, halvesAfter, shorter, countedUp, countedChain, outputAnswer, lastHalf, accepted, concluded, blockCall}
+use Rattle.pipeline.specs.WritingBack.{stagesOf}
+use Rattle.questions.specs.Walk.{headLegal}
+use Rattle.block.specs.Turns.{Accepts, unstaged, countedIf}
+use Rattle.block.proofs.Turns.{Ended}
 use Rattle.block.proofs.Stages.{withStages, halves-end}
 
 -- ---- refusals
-pub head-refused : (c : Pipeline) (format : PcmFormat) (size short : ℕ) → headLegal (c .format) (c .count) ≡ false → verdictOf c format size short ≡ Refused InvalidFormat
-unfolding verdictOf legal
+pub head-refused : (c : Pipeline) (format : PcmFormat) (size short : ℕ) → headLegal (c .format) (c .count) ≡ false → blockVerdict c format size short ≡ Refused InvalidFormat
+unfolding blockVerdict legal
 head-refused c format size short h = rw (go (leb (c .count) 8) (formatAllowed (c .format)) h)
   where
     go : (t u : Bool) → (t && u) ≡ false → (t && (u && suited (c .format) (stagesOf c))) ≡ false
@@ -36,21 +40,21 @@ head-refused c format size short h = rw (go (leb (c .count) 8) (formatAllowed (c
     go false u e = refl
 
 module _ (c : Pipeline) (format : PcmFormat) (t : ℕ) (block a b : List ℕ) where
-  pub refused-is : (e : Error) (chain : Pipeline) (answer : Answer) → chain ≡ c → answer ≡ answers.Refused e → verdictOf c format (length block) (shorter a b) ≡ Refused e
+  pub refused-is : (e : Error) (chain : Pipeline) (answer : Answer) → chain ≡ c → answer ≡ answers.Refused e → blockVerdict c format (length block) (shorter a b) ≡ Refused e
       → record { chain = chain; answer = answer; a = a; b = b } ≡ blockCall c format t block a b
   unfolding blockCall
   refused-is e chain answer p q h =
       ap₂ (λ (x : Pipeline) (y : Answer). record { chain = x; answer = y; a = a; b = b }) p q
       ∙ sym (ap (λ (v : Verdict). concluded v c t block (record { a = a; b = b })) h)
 
-  accepted-call : verdictOf c format (length block) (shorter a b) ≡ Accepted → accepted c t block (halves a b) ≡ blockCall c format t block a b
+  accepted-call : blockVerdict c format (length block) (shorter a b) ≡ Accepted → accepted c t block (halves a b) ≡ blockCall c format t block a b
   unfolding blockCall
   accepted-call h = sym (ap (λ (v : Verdict). concluded v c t block (record { a = a; b = b })) h)
 
   -- ---- an accepted block
-  same-answer : (f g : PcmFormat) (half : Half) (len : ℕ) → ((len ≡ 0 → ⊥) → f ≡ g) → answerOf f t half len ≡ answerOf g t half len
+  same-answer : (f g : PcmFormat) (half : Half) (len : ℕ) → ((len ≡ 0 → ⊥) → f ≡ g) → outputAnswer f t half len ≡ outputAnswer g t half len
   same-answer f g half zero h = refl
-  same-answer f g half (suc n) h = ap (λ (k : PcmFormat). answerOf k t half (suc n)) (h (suc-ne-zero n))
+  same-answer f g half (suc n) h = ap (λ (k : PcmFormat). outputAnswer k t half (suc n)) (h (suc-ne-zero n))
 
   abbrev next : List Stage
   next = chainNext (stagesOf c) (framesOf (c .format .channels) block) ++ drop (c .count) (c .stages)
@@ -63,7 +67,7 @@ module _ (c : Pipeline) (format : PcmFormat) (t : ℕ) (block a b : List ℕ) wh
 
   accepted-is : record {
     chain = countedChain c next size;
-    answer = answerOf leaving t (lastHalf (c .count)) size;
+    answer = outputAnswer leaving t (lastHalf (c .count)) size;
     a = halvesAfter (stagesOf c) (framesOf (c .format .channels) block) block (halves a b) .a;
     b = halvesAfter (stagesOf c) (framesOf (c .format .channels) block) block (halves a b) .b;
   } ≡ accepted c t block (halves a b)
@@ -72,18 +76,18 @@ module _ (c : Pipeline) (format : PcmFormat) (t : ℕ) (block a b : List ℕ) wh
 
   module _ (w : Accepts c block a b) (eight : length (c .stages) ≡ 8) (bytes : Bytes block) (a₀ : List ℕ) (u : a₀ ≡ unstaged (c .count) block a)
       (s : List Stage) (f : PcmFormat) (len : ℕ) (h : Halves) (e : Ended (c .stages) (c .count) (c .format) block (halves a₀ b) s f len h) where
-    played : record { chain = countedChain c s len; answer = answerOf f t (lastHalf (c .count)) len; a = h .a; b = h .b } ≡ accepted c t block (halves a b)
+    played : record { chain = countedChain c s len; answer = outputAnswer f t (lastHalf (c .count)) len; a = h .a; b = h .b } ≡ accepted c t block (halves a b)
     played =
         ap (λ (r : Answer). record { chain = countedChain c s len; answer = r; a = h .a; b = h .b }) (same-answer f leaving (lastHalf (c .count)) len (e .form))
-        ∙ ap₂ (λ (l : List Stage) (n : ℕ). record { chain = countedChain c l n; answer = answerOf leaving t (lastHalf (c .count)) n; a = h .a; b = h .b }) (e .keeps) (e .size)
-        ∙ ap (λ (g : Halves). record { chain = countedChain c next size; answer = answerOf leaving t (lastHalf (c .count)) size; a = g .a; b = g .b }) (e .halves-are ∙ halves-end c block a b w eight bytes a₀ u)
+        ∙ ap₂ (λ (l : List Stage) (n : ℕ). record { chain = countedChain c l n; answer = outputAnswer leaving t (lastHalf (c .count)) n; a = h .a; b = h .b }) (e .keeps) (e .size)
+        ∙ ap (λ (g : Halves). record { chain = countedChain c next size; answer = outputAnswer leaving t (lastHalf (c .count)) size; a = g .a; b = g .b }) (e .halves-are ∙ halves-end c block a b w eight bytes a₀ u)
         ∙ accepted-is
 
-    pub concludes : (chain : Pipeline) → chain ≡ withStages c s → (blocks empties : ℕ) (answer : Answer) → blocks ≡ counted (chain .blocks) → empties ≡ countedIf len (chain .«empty_blocks»)
-        → answer ≡ answerOf f t (lastHalf (c .count)) len → verdictOf c format (length block) (shorter a b) ≡ Accepted
+    pub concludes : (chain : Pipeline) → chain ≡ withStages c s → (blocks empties : ℕ) (answer : Answer) → blocks ≡ countedUp (chain .blocks) → empties ≡ countedIf len (chain .«empty_blocks»)
+        → answer ≡ outputAnswer f t (lastHalf (c .count)) len → blockVerdict c format (length block) (shorter a b) ≡ Accepted
         → record { chain = record { stages = chain .stages; count = chain .count; format = chain .format; blocks = blocks; «empty_blocks» = empties }; answer = answer; a = h .a; b = h .b } ≡ blockCall c format t block a b
     unfolding withStages
     concludes chain m blocks empties answer p q r v =
         ap₂ (λ (x y : ℕ). record { chain = record { stages = chain .stages; count = chain .count; format = chain .format; blocks = x; «empty_blocks» = y }; answer = answer; a = h .a; b = h .b }) p q
-        ∙ ap₂ (λ (d : Pipeline) (y : Answer). record { chain = record { stages = d .stages; count = d .count; format = d .format; blocks = counted (d .blocks); «empty_blocks» = countedIf len (d .«empty_blocks») }; answer = y; a = h .a; b = h .b }) m r
+        ∙ ap₂ (λ (d : Pipeline) (y : Answer). record { chain = record { stages = d .stages; count = d .count; format = d .format; blocks = countedUp (d .blocks); «empty_blocks» = countedIf len (d .«empty_blocks») }; answer = y; a = h .a; b = h .b }) m r
         ∙ played ∙ accepted-call v

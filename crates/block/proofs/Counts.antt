@@ -1,24 +1,16 @@
 -- A chain's stages by their number. Assumes nothing.
 use mathlib.Core.Path.{_≡_, refl}
-use mathlib.Core.Bool.{false}
 use mathlib.Core.List.{List, [], _∷_}
 use Prim.Native.Nat.{ℕ, _≤_, _<_}
 use native.Mathlib.Omega.{arith}
-use lib.IntN.{pos}
 use lib.ListN.{length, take, drop}
 use lib.Seq.{length-take-le}
 use Rattle.pcm.specs.Frames.{Frame}
 use Rattle.stage.specs.declared.Stage.{Stage}
-use Rattle.stage.specs.declared.StageKind.the-variants as kind
 use Rattle.pipeline.specs.declared.Pipeline.{Pipeline}
-use Rattle.block.specs.BlockCall.{Halves, stagesOf, passed, halvesAfter}
-
--- what stands past a list's end
-abbrev pub noStage : Stage
-noStage = record {
-  kind = kind.Gain (record { q15 = pos 0 });
-  memory = record { filter = record { x1 = []; x2 = []; y1 = []; y2 = [] }; resampler = record { last = []; phase = 0; primed = false } };
-}
+use Rattle.turns.specs.Turns.{Halves}
+use Rattle.pipeline.specs.WritingBack.{stagesOf}
+use Rattle.block.specs.BlockCall.{passed, halvesAfter}
 
 pub no-stages : (c : Pipeline) → c .count ≡ 0 → stagesOf c ≡ []
 no-stages c e = rw e (none (c .stages))

@@ -1,8 +1,9 @@
-mod Lengths
-mod Counts
 mod Asking
-mod Turning
-mod Playing
+mod Concluding
+mod Counts
 mod Reaching
 mod Stages
-mod Concluding
+mod Bounds
+mod Steps
+mod Turns
+mod Walking

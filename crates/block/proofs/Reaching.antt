@@ -2,7 +2,7 @@
 use mathlib.Core.Path.{_≡_, refl, sym, ap, ap₂, _∙_, subst}
 use mathlib.Core.Bool.{Bool, true, false, cond}
 use mathlib.Core.List.{List, [], _∷_, _++_, append-assoc}
-use Prim.Native.Nat.{ℕ, zero, suc, _+_, _-_, _*_, _/_, _%_, _≤_, _<_}
+use Prim.Native.Nat.{ℕ, zero, suc, _+_, _*_, _/_, _%_, _≤_, _<_}
 use native.Mathlib.Nat.{mul-pos, mul-div-cancel, mul-mod-left, div-add-mod', zero-mul}
 use native.Mathlib.Decide.{decLt}
 use native.Mathlib.Numerals.{add-one}
@@ -14,16 +14,26 @@ use lib.Seq.{take-suc-set, drop-set-lt, drop-drop, getD-drop, length-take-le}
 use Rattle.pcm.specs.declared.PcmFormat.{PcmFormat}
 use Rattle.pcm.specs.declared.Verdict.the-variants.{Accepted}
 use Rattle.pcm.specs.Samples.{Bytes}
-use Rattle.pcm.specs.Frames.{Frame, FramesOf, framesOf, bytesOf, written, length-bytes, frames-bytes, length-frames, frames-are-frames, front-written, length-written, written-nil}
+use Rattle.pcm.specs.Frames.{Frame, FramesOf, framesOf, bytesOf, written}
+use Rattle.pcm.specs.laws.Frames.{length-bytes, frames-bytes, length-frames, frames-are-frames, front-written, length-written, written-nil}
 use Rattle.stage.specs.declared.Stage.{Stage}
-use Rattle.stage.specs.Stages.{stageOut, stageNext, formatAfter, stage-out-nil}
-use Rattle.stage.specs.Rooms.{suits, framesOut, roomWanted, Served, Serves, stage-count, room-holds-bytes, channels-after}
+use Rattle.stage.specs.Stages.{stageOut, stageNext, formatAfter}
+use Rattle.stage.specs.laws.Stages.{stage-out-nil}
+use Rattle.stage.specs.Rooms.{stageSuits, framesOut, roomWanted, Served, Serves}
+use Rattle.stage.specs.laws.Rooms.{stage-count, room-holds-bytes, channels-after}
 use Rattle.pipeline.specs.declared.Pipeline.{Pipeline}
-use Rattle.block.specs.Chain.{chainOut, chainNext, formatLeaving, chain-out-nil, chain-next-nil}
-use Rattle.block.specs.BlockCall.{Halves, put, suited, roomVerdict, passed, stagesOf, shorter, halvesVerdict}
-use Rattle.block.specs.Steps.{stage-at, stages-end, drop-zero, room-first, room-rest}
-use Rattle.block.specs.Bounds.{suited-first, suited-rest, Legal, legal-parts}
-use Rattle.block.specs.Turns.{halves, Turns, sourceAt, targetAt, TurnAsks, TurnDoes, Takes, Accepts, Ended, Reached}
+use Rattle.block.specs.Chain.{chainOut, chainNext}
+use Rattle.block.specs.laws.Chain.{chain-out-nil, chain-next-nil}
+use Rattle.pipeline.specs.Reset.{formatLeaving}
+use Rattle.turns.specs.Turns.{Halves, halves, sourceAt, targetAt, TurnAsks, TurnDoes, Takes}
+use Rattle.block.specs.BlockCall.{put, suited, roomsVerdict, passed, shorter, halvesVerdict}
+use Rattle.pipeline.specs.WritingBack.{stagesOf}
+use Rattle.block.proofs.Steps.{stage-at, stages-end, drop-zero}
+use Rattle.block.specs.laws.Steps.{room-first, room-rest}
+use Rattle.block.specs.laws.Bounds.{suited-first, suited-rest, legal-parts}
+use Rattle.block.specs.Bounds.{Legal}
+use Rattle.block.proofs.Turns.{Turns, Ended, Reached}
+use Rattle.block.specs.Turns.{Accepts}
 
 -- ---- small laws
 module _ (s : Stage) (rest : List Stage) where
@@ -153,7 +163,7 @@ module _ (old : List Stage) (count : ℕ) (format : PcmFormat) (block : List ℕ
     (stages : List Stage) (f : PcmFormat) (n i : ℕ) (h : Halves) (d : Stage)
     (r : Reached old count format block before short stages f n i h) (more : i < count) (len : length stages ≡ 8) (len-old : length old ≡ 8) (top : count ≤ 8)
     (in-a : short ≤ length (h .a)) (in-b : short ≤ length (h .b)) where
-  abbrev s : Stage
+  abbrev pub s : Stage
   s = getD stages i d
 
   abbrev rest : List Stage
@@ -170,11 +180,11 @@ module _ (old : List Stage) (count : ℕ) (format : PcmFormat) (block : List ℕ
   not-none : length (r .xs) ≡ 0 → ⊥
   not-none e = omega (arith, r .some)
 
-  suit-here : suits f (s .kind) (s .memory) ≡ true
+  suit-here : stageSuits f (s .kind) (s .memory) ≡ true
   suit-here = suited-first f s rest (sym (ap (suited f) ahead) ∙ r .suit)
 
-  room-all : roomVerdict f (s ∷ rest) (length (r .xs)) short ≡ Accepted
-  room-all = sym (ap (λ (l : List Stage). roomVerdict f l (length (r .xs)) short) ahead) ∙ r .room
+  room-all : roomsVerdict f (s ∷ rest) (length (r .xs)) short ≡ Accepted
+  room-all = sym (ap (λ (l : List Stage). roomsVerdict f l (length (r .xs)) short) ahead) ∙ r .room
 
   room-here : roomWanted f (s .kind) (length (r .xs)) ≤ short
   room-here = room-first f s rest (length (r .xs)) short not-none room-all
@@ -287,8 +297,8 @@ module _ (old : List Stage) (count : ℕ) (format : PcmFormat) (block : List ℕ
           long = ap length src ∙ long-out;
           size = size-is;
           suit = subst (λ (k : PcmFormat). suited k rest ≡ true) (sym e) (suited-rest f s rest (sym (ap (suited f) ahead) ∙ r .suit));
-          room = subst (λ (k : PcmFormat). roomVerdict k rest (length out) short ≡ Accepted) (sym e)
-              (subst (λ (k : ℕ). roomVerdict (formatAfter f (s .kind)) rest k short ≡ Accepted) (sym count-out) (room-rest f s rest (length (r .xs)) short not-none room-all));
+          room = subst (λ (k : PcmFormat). roomsVerdict k rest (length out) short ≡ Accepted) (sym e)
+              (subst (λ (k : ℕ). roomsVerdict (formatAfter f (s .kind)) rest k short ≡ Accepted) (sym count-out) (room-rest f s rest (length (r .xs)) short not-none room-all));
           sides = sides-out;
           makes = makes-out;
           keeps = keeps-out;
@@ -326,7 +336,7 @@ module _ (old : List Stage) (count : ℕ) (format : PcmFormat) (block : List ℕ
   }
 
 -- ---- before the first stage
-pub halves-some : (f : PcmFormat) (l : List Stage) (size short : ℕ) → 0 < length l → halvesVerdict f l size short ≡ roomVerdict f l (size / (f .channels * 2)) short
+pub halves-some : (f : PcmFormat) (l : List Stage) (size short : ℕ) → 0 < length l → halvesVerdict f l size short ≡ roomsVerdict f l (size / (f .channels * 2)) short
 halves-some f [] size short h = absurd (let b : ⊥ = omega arith in b)
 halves-some f (s ∷ l) size short h = refl
 

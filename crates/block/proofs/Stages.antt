@@ -14,21 +14,28 @@ use Rattle.pcm.specs.declared.Error.the-variants.{BufferTooSmall}
 use Rattle.pcm.specs.declared.Verdict.the-variants.{Accepted}
 use Rattle.pcm.specs.Refusals.{ask}
 use Rattle.pcm.specs.Samples.{Bytes}
-use Rattle.pcm.specs.Frames.{Frame, framesOf, bytesOf, written, bytes-frames, length-written}
+use Rattle.pcm.specs.Frames.{Frame, framesOf, bytesOf, written}
+use Rattle.pcm.specs.laws.Frames.{bytes-frames, length-written}
 use Rattle.stage.specs.declared.Stage.{Stage}
 use Rattle.stage.specs.declared.StageKind.{StageKind}
 use Rattle.stage.specs.declared.StageKind.the-variants as kind
 use Rattle.stage.specs.declared.SoundMemory.{SoundMemory}
 use Rattle.stage.specs.Stages.{remembers, keepsOf, stageNext, formatAfter}
-use Rattle.stage.specs.Rooms.{Serves, true-false}
+use Rattle.stage.specs.Rooms.{Serves}
+use Rattle.pcm.specs.laws.Tests.{true-false}
 use Rattle.pipeline.specs.declared.Pipeline.{Pipeline}
-use Rattle.block.specs.Chain.{chainOut, chainNext, formatLeaving}
-use Rattle.block.specs.BlockCall.{Halves, stagesOf, passed, shorter, halvesVerdict, halvesAfter}
-use Rattle.block.specs.Steps.{ask-yes}
-use Rattle.block.specs.Bounds.{legal-parts}
-use Rattle.block.specs.Turns.{halves, sourceAt, Turns, TurnAsks, TurnDoes, Takes, Accepts, Ended, Reached, unstaged, nextStage}
+use Rattle.block.specs.Chain.{chainOut, chainNext}
+use Rattle.pipeline.specs.Reset.{formatLeaving}
+use Rattle.turns.specs.Turns.{Halves, halves, sourceAt, TurnAsks, TurnDoes, Takes}
+use Rattle.pipeline.specs.WritingBack.{stagesOf}
+use Rattle.block.specs.BlockCall.{passed, shorter, halvesVerdict, halvesAfter}
+use Rattle.pcm.specs.laws.Refusals.{ask-yes}
+use Rattle.block.specs.laws.Bounds.{legal-parts}
+use Rattle.block.proofs.Turns.{Turns, Ended, Reached}
+use Rattle.block.specs.Turns.{Accepts, unstaged, nextStage}
 use Rattle.block.proofs.Reaching.{Sized, positive, shorter-a, shorter-b, format-none, passed-none, turns-of, takes, next-reached, sized-out, stopped, ended, begun}
-use Rattle.block.proofs.Counts.{noStage, no-stages, some-stages, all-stages, halves-some}
+use Rattle.stage.specs.laws.Places.{noStage}
+use Rattle.block.proofs.Counts.{no-stages, some-stages, all-stages, halves-some}
 
 -- a chain with other stages
 unfoldable pub withStages : Pipeline → List Stage → Pipeline

@@ -1,5 +1,5 @@
 -- The block call (document 01, pipeline.rs and 'The questions'): from a chain and a call to all that is there afterwards. Definitions only.
-use mathlib.Core.Bool.{Bool, true, false, cond, _&&_}
+use mathlib.Core.Bool.{Bool, true, cond, _&&_}
 use mathlib.Core.List.{List, [], _∷_, _++_}
 use Prim.Native.Nat.{ℕ, zero, suc, _+_, _*_, _/_, _%_}
 use lib.Dec.{eqb, leb, ltb}
@@ -13,21 +13,24 @@ use Rattle.pcm.specs.Refusals.{ask}
 use Rattle.pcm.specs.Frames.{Frame, framesOf, bytesOf, written}
 use Rattle.stage.specs.declared.Stage.{Stage}
 use Rattle.stage.specs.Stages.{stageOut, formatAfter}
-use Rattle.stage.specs.Rooms.{suits, framesOut, framesWanted, roomWanted}
+use Rattle.stage.specs.Rooms.{stageSuits, framesOut, framesWanted, roomWanted}
 use Rattle.pipeline.specs.declared.Pipeline.{Pipeline}
-pub use Rattle.pipeline.specs.WritingBack.{stagesOf}
+use Rattle.pipeline.specs.WritingBack.{stagesOf}
 use Rattle.block.specs.declared.Half.{Half}
 use Rattle.block.specs.declared.Half.the-variants as half
 use Rattle.block.specs.declared.Answer.{Answer}
 use Rattle.block.specs.declared.Answer.the-variants as answer
 use Rattle.block.specs.declared.Scratch.{Scratch}
 use Rattle.block.specs.declared.Scratch.the-variants as scratch
-use Rattle.block.specs.Chain.{chainOut, chainNext, formatLeaving}
+use Rattle.block.specs.Chain.{chainOut, chainNext}
+use Rattle.pipeline.specs.Reset.{formatLeaving}
+use Rattle.questions.specs.Walk.{wholeFrames, sameFormat, larger}
+use Rattle.turns.specs.Turns.{Halves}
 
--- each stage suits the format that reaches it
+-- each stage stageSuits the format that reaches it
 unfoldable pub suited : PcmFormat → List Stage → Bool
 suited f [] = true
-suited f (s ∷ rest) = suits f (s .kind) (s .memory) && suited (formatAfter f (s .kind)) rest
+suited f (s ∷ rest) = stageSuits f (s .kind) (s .memory) && suited (formatAfter f (s .kind)) rest
 
 -- what the block call needs of a chain; every chain that opening or a call returned has it
 unfoldable pub legal : Pipeline → Bool
@@ -36,24 +39,17 @@ legal c = leb (c .count) 8 && (formatAllowed (c .format) && suited (c .format) (
 -- ---- the questions
 -- At each stage that will be reached, in chain order, does the shorter half hold the room wanted?
 -- else 3, with needed = twice the room of the first stage short
-unfoldable pub roomVerdict : PcmFormat → List Stage → ℕ → ℕ → Verdict
-roomVerdict f [] n shorter = Accepted
-roomVerdict f (s ∷ rest) n shorter =
+unfoldable pub roomsVerdict : PcmFormat → List Stage → ℕ → ℕ → Verdict
+roomsVerdict f [] n shorter = Accepted
+roomsVerdict f (s ∷ rest) n shorter =
     cond (eqb n 0) Accepted
     (ask (leb (roomWanted f (s .kind) n) shorter) (BufferTooSmall (2 * roomWanted f (s .kind) n))
-    (roomVerdict (formatAfter f (s .kind)) rest (framesOut (s .kind) (s .memory) n) shorter))
+    (roomsVerdict (formatAfter f (s .kind)) rest (framesOut (s .kind) (s .memory) n) shorter))
 
 -- for no stages, twice the block
 abbrev pub halvesVerdict : PcmFormat → List Stage → ℕ → ℕ → Verdict
 halvesVerdict f [] size shorter = ask (leb size shorter) (BufferTooSmall (2 * size)) Accepted
-halvesVerdict f (s ∷ rest) size shorter = roomVerdict f (s ∷ rest) (size / (f .channels * 2)) shorter
-
--- whole frames of the chain's format, at least one
-abbrev pub wholeFrames : PcmFormat → ℕ → Bool
-wholeFrames f size = ltb 0 size && eqb (size % (f .channels * 2)) 0
-
-abbrev pub sameFormat : PcmFormat → PcmFormat → Bool
-sameFormat f g = eqb (f .rate) (g .rate) && eqb (f .channels) (g .channels)
+halvesVerdict f (s ∷ rest) size shorter = roomsVerdict f (s ∷ rest) (size / (f .channels * 2)) shorter
 
 -- Is the chain legal? else 1. Whole frames, at least one? else 4. At most 8,192? else 10
 abbrev pub sizeAsked : Pipeline → ℕ → Verdict → Verdict
@@ -63,15 +59,9 @@ sizeAsked c size next =
     (ask (leb (size / (c .format .channels * 2)) 8192) TooManyFrames next))
 
 -- then: In the chain's format? else 2. Room? else 3
-unfoldable pub verdictOf : Pipeline → PcmFormat → ℕ → ℕ → Verdict
-verdictOf c format size shorter =
+unfoldable pub blockVerdict : Pipeline → PcmFormat → ℕ → ℕ → Verdict
+blockVerdict c format size shorter =
     sizeAsked c size (ask (sameFormat (c .format) format) Unsupported (halvesVerdict (c .format) (stagesOf c) size shorter))
-
--- ---- an accepted block
--- the two halves that the caller lends
-pub record Halves : Type 0 where
-  pub a : List ℕ
-  pub b : List ℕ
 
 -- stage 1 writes to half a, stage 2 to b, stage 3 to a, and so on: stage i + 1 writes `out`
 abbrev pub put : ℕ → List ℕ → Halves → Halves
@@ -96,8 +86,8 @@ lastHalf zero = half.A
 lastHalf (suc n) = cond (eqb (n % 2) 0) half.A half.B
 
 -- a counter grows by one and stays at 2^64 - 1
-abbrev pub counted : ℕ → ℕ
-counted n = cond (ltb n 18446744073709551615) (n + 1) n
+abbrev pub countedUp : ℕ → ℕ
+countedUp n = cond (ltb n 18446744073709551615) (n + 1) n
 
 -- what a call leaves behind
 pub record Result : Type 0 where
@@ -107,8 +97,8 @@ pub record Result : Type 0 where
   pub b : List ℕ
 
 -- 'nothing yet' where no bytes come out; else the format, half and length of the output; the timestamp is copied through
-abbrev pub answerOf : PcmFormat → ℕ → Half → ℕ → Answer
-answerOf format timestamp side len = cond (eqb len 0) answer.NothingYet (answer.Output format timestamp side len)
+abbrev pub outputAnswer : PcmFormat → ℕ → Half → ℕ → Answer
+outputAnswer format timestamp side len = cond (eqb len 0) answer.NothingYet (answer.Output format timestamp side len)
 
 -- `blocks` grows with each accepted call, `empty_blocks` with each 'nothing yet'
 abbrev pub countedChain : Pipeline → List Stage → ℕ → Pipeline
@@ -116,8 +106,8 @@ countedChain c stages len = record {
   stages = stages;
   count = c .count;
   format = c .format;
-  blocks = counted (c .blocks);
-  «empty_blocks» = cond (eqb len 0) (counted (c .«empty_blocks»)) (c .«empty_blocks»);
+  blocks = countedUp (c .blocks);
+  «empty_blocks» = cond (eqb len 0) (countedUp (c .«empty_blocks»)) (c .«empty_blocks»);
 }
 
 -- how many bytes come out of the block
@@ -127,7 +117,7 @@ outputBytes c bytes = length (bytesOf (chainOut (stagesOf c) (framesOf (c .forma
 unfoldable pub accepted : Pipeline → ℕ → List ℕ → Halves → Result
 accepted c timestamp bytes h = record {
   chain = countedChain c (chainNext (stagesOf c) (framesOf (c .format .channels) bytes) ++ drop (c .count) (c .stages)) (outputBytes c bytes);
-  answer = answerOf (formatLeaving (c .format) (stagesOf c)) timestamp (lastHalf (c .count)) (outputBytes c bytes);
+  answer = outputAnswer (formatLeaving (c .format) (stagesOf c)) timestamp (lastHalf (c .count)) (outputBytes c bytes);
   a = halvesAfter (stagesOf c) (framesOf (c .format .channels) bytes) bytes h .a;
   b = halvesAfter (stagesOf c) (framesOf (c .format .channels) bytes) bytes h .b;
 }
@@ -146,15 +136,11 @@ concluded (Refused e) c timestamp bytes h = record { chain = c; answer = answer.
 -- the block call: from the chain, the block and the two halves to all that is there afterwards
 unfoldable pub blockCall : Pipeline → PcmFormat → ℕ → List ℕ → List ℕ → List ℕ → Result
 blockCall c format timestamp bytes a b =
-    concluded (verdictOf c format (length bytes) (shorter a b)) c timestamp bytes (record { a = a; b = b })
+    concluded (blockVerdict c format (length bytes) (shorter a b)) c timestamp bytes (record { a = a; b = b })
 
--- ---- scratch_bytes: twice the largest block on the way, if every stage delivered all that it wants room for
-unfoldable pub larger : ℕ → ℕ → ℕ
-larger a b = cond (leb a b) b a
-
-unfoldable pub largest : PcmFormat → List Stage → ℕ → ℕ
-largest f [] n = 0
-largest f (s ∷ rest) n = larger (roomWanted f (s .kind) n) (largest (formatAfter f (s .kind)) rest (framesWanted (s .kind) n))
+unfoldable pub largestRoom : PcmFormat → List Stage → ℕ → ℕ
+largestRoom f [] n = 0
+largestRoom f (s ∷ rest) n = larger (roomWanted f (s .kind) n) (largestRoom (formatAfter f (s .kind)) rest (framesWanted (s .kind) n))
 
 abbrev pub scratchAnswer : Verdict → ℕ → Scratch
 scratchAnswer Accepted figure = scratch.Bytes figure
@@ -162,7 +148,7 @@ scratchAnswer (Refused e) figure = scratch.Refused e
 
 -- the block itself included
 unfoldable pub scratchBytes : Pipeline → ℕ → Scratch
-scratchBytes c size = scratchAnswer (sizeAsked c size Accepted) (2 * larger size (largest (c .format) (stagesOf c) (size / (c .format .channels * 2))))
+scratchBytes c size = scratchAnswer (sizeAsked c size Accepted) (2 * larger size (largestRoom (c .format) (stagesOf c) (size / (c .format .channels * 2))))
 
 -- ---- the output as a part of the half that holds it, empty if the length given exceeds that half
 abbrev pub frontOf : ℕ → List ℕ → List ℕ

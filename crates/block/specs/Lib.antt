@@ -1,9 +1,6 @@
-pub mod Chain
 pub mod BlockCall
-pub mod Walk
-pub mod Turns
-pub mod Steps
 pub mod Bounds
-pub mod Walking
-pub mod Beforehand
-pub mod Scratch
+pub mod Chain
+pub mod Theorems
+pub mod Turns
+pub mod laws

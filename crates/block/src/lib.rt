@@ -2,7 +2,7 @@
 ghost use mathlib.Core.Path.{_≡_};
 ghost use Prim.Native.Nat.{_≤_, _<_};
 ghost use lib.ListN.{length};
-ghost use Rattle.block.specs.BlockCall.{counted, lastHalf, answerOf, blockCall, scratchBytes, shorterOf, frontOf, outputOf};
+ghost use Rattle.block.specs.BlockCall.{countedUp, lastHalf, outputAnswer, blockCall, scratchBytes, shorterOf, frontOf, outputOf};
 ghost use Rattle.block.specs.Turns.{countedIf, unstaged, nextStage};
 use pcm::Error;
 use pcm::PcmFormat;
@@ -10,9 +10,6 @@ use pcm::Verdict;
 use pipeline::Pipeline;
 use questions::Question;
 use stage::Stage;
-
-pub mod questions;
-pub mod turns;
 
 pub enum Half {
     A,
@@ -42,7 +39,7 @@ pub enum Scratch {
 
 // One more, up to 2^64 - 1.
 fn count_up(n: u64) -> u64
-    ensures { λ r. ⌜ r ≡ counted n ⌝ }
+    ensures { λ r. ⌜ r ≡ countedUp n ⌝ }
 {
     if n == 18446744073709551615 {
         return n;
@@ -76,7 +73,7 @@ fn last_half(count: usize) -> Half
 
 // The answer of an accepted block of which so many bytes came out.
 fn answered(format: PcmFormat, timestamp: u64, count: usize, len: usize) -> Answer
-    ensures { λ r. ⌜ r ≡ answerOf format timestamp (lastHalf count) len ⌝ }
+    ensures { λ r. ⌜ r ≡ outputAnswer format timestamp (lastHalf count) len ⌝ }
 {
     if len == 0 {
         return Answer::NothingYet;

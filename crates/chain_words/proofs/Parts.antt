@@ -1,22 +1,19 @@
 -- A run that is written to the part of a slice from its k-th word on, and numbers of 16 bits. Assumes nothing.
 use mathlib.Core.Path.{_≡_, refl, sym, ap, ap₂, _∙_}
-use mathlib.Core.Bool.{false}
-use mathlib.Core.List.{List, [], _∷_, _++_, map, append-nil}
-use Prim.Native.Nat.{ℕ, zero, suc, _+_, _-_, _*_, _/_, _%_, _^_, _≤_, _<_}
+use mathlib.Core.List.{List, [], _∷_, _++_, append-nil}
+use Prim.Native.Nat.{ℕ, zero, suc, _+_, _-_, _*_, _%_, _^_, _≤_, _<_}
 use native.Mathlib.Numerals.{add-one}
 use native.Mathlib.Omega.{arith}
 use borrow.Rule.Slice.PartAt.{part-to-end}
 use borrow.Rule.Slice.PartMut.{putMid}
 use lib.IntN.{ℤ, pos, negsuc, _-ℤ_}
-use lib.ListN.{length, getD, take, drop, set, length-drop, length-map, drop-of-length-le, take-append-drop}
+use lib.ListN.{length, getD, take, drop, set, length-drop, drop-of-length-le, take-append-drop}
 use lib.Seq.{sets, sets-eq, drop-set-add, take-set-le}
 use mir.Syntax.{w16, w32}
 use mir.Val.{SFits, toZ, ofZ}
 use mir.Facts.{toZ-neg, toZ-pos}
 use Rattle.pcm.specs.Samples.{All}
 use Rattle.pcm.specs.Frames.{written}
-use Rattle.stage.specs.declared.StageKind.the-variants as kind
-use Rattle.stage.specs.declared.Stage.{Stage}
 
 run-in-part : (vs w : List ℕ) (k j : ℕ) → take k w ++ sets (drop k w) j vs ≡ sets w (k + j) vs
 run-in-part [] w k j = take-append-drop k w
@@ -71,21 +68,6 @@ both-halves a b f g =
     below : (z : ℤ) → SFits w16 z → ofZ w16 z < 65536
     below (pos n) f = omega (arith, f .sfits)
     below (negsuc n) f = omega (arith, f .sfits)
-
--- ---- the stages of a chain's array
--- what is read past the end of a list of stages
-abbrev pub noStage : Stage
-noStage = record {
-  kind = kind.Gain (record { q15 = pos 0 });
-  memory = record {
-    filter = record { x1 = []; x2 = []; y1 = []; y2 = [] };
-    resampler = record { last = []; phase = 0; primed = false };
-  };
-}
-
--- the length of an array, from that of its elements' values
-pub unmapped : {A B : Type 0} (f : A → B) (l : List A) (n : ℕ) → length (map f l) ≡ n → length l ≡ n
-unmapped f l n e = sym (length-map l f) ∙ e
 
 pub all-next : {A : Type 0} (P : A → Type 0) (l : List A) (i : ℕ) (d : A) → i < length l → All P (take i l) → P (getD l i d) → All P (take (i + 1) l)
 all-next {A} P l i d h a p = rw add-one (go l i h a p)

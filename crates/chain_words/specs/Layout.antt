@@ -2,7 +2,7 @@
 --
 --   word 0 count, 1 rate, 2 channels, 3 and 4 blocks, 5 and 6 empty blocks (low word first), 7 zero; stage i begins at word 8 + 18 i
 --   of a stage: 0 kind (the recipe's number), 1 to 6 settings, 7 to 14 the filter's memory, 15 to 17 the resampler's
-use mathlib.Core.Bool.{Bool, true, false, not, cond, _&&_}
+use mathlib.Core.Bool.{Bool, true, not, cond, _&&_}
 use mathlib.Core.List.{List, [], _∷_, _++_}
 use Prim.Native.Nat.{ℕ, zero, suc, _+_, _*_, _/_, _%_}
 use lib.Dec.{eqb, leb}
@@ -12,11 +12,11 @@ use lib.ListN.{length, getD, drop, replicate}
 use mir.Syntax.{w16, w32}
 use mir.Val.{toZ, ofZ}
 use Rattle.pcm.specs.declared.PcmFormat.{PcmFormat}
-use Rattle.pcm.specs.declared.filters.FilterMemory.{FilterMemory}
-use Rattle.pcm.specs.Floats.{patternOf}
+use Rattle.filters.specs.declared.FilterMemory.{FilterMemory}
+use Rattle.floats.specs.Floats.{patternOf}
 use Rattle.gain.specs.declared.Gain.{Gain}
-use Rattle.resample.specs.declared.LinearResampler.{LinearResampler}
-use Rattle.resample.specs.declared.ResamplerState.{ResamplerState}
+use Rattle.rates.specs.declared.LinearResampler.{LinearResampler}
+use Rattle.rates.specs.declared.ResamplerState.{ResamplerState}
 use Rattle.dc_block.specs.declared.DcBlock.{DcBlock}
 use Rattle.biquad.specs.declared.Biquad.{Biquad}
 use Rattle.biquad.specs.declared.CoefficientBits.{CoefficientBits}
@@ -28,16 +28,6 @@ use Rattle.stage.specs.declared.Stage.{Stage}
 use Rattle.recipe.specs.Records.{known}
 use Rattle.pipeline.specs.declared.Pipeline.{Pipeline}
 use Rattle.pipeline.specs.Opening.{unusedStage}
-
--- the words of a chain, of what stands before its stages, and of a stage
-abbrev pub chainSize : ℕ
-chainSize = 152
-
-abbrev pub headSize : ℕ
-headSize = 8
-
-abbrev pub stageSize : ℕ
-stageSize = 18
 
 -- ---- a stage to words
 -- its kind and settings: floats as their patterns, words of no use zero

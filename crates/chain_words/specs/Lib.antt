@@ -1,6 +1,5 @@
+pub mod Theorems
+pub mod Kept
 pub mod Layout
 pub mod Storable
-pub mod ReadBack
-pub mod Places
-pub mod Chains
-pub mod Kept
+pub mod laws

@@ -1,19 +1,18 @@
 -- Which chains words give back: what every chain of machine numbers has (`Held`), and what those have that a call leaves (`Small`). Definitions only.
 use mathlib.Core.Path.{_≡_}
 use mathlib.Core.List.{List}
-use Prim.Native.Nat.{ℕ, _≤_, _<_}
+use Prim.Native.Nat.{_≤_, _<_}
 use lib.Dec.{T}
 use lib.IntN.{ℤ, pos}
 use lib.Ieee.{Float, nan, binary32, fits}
 use lib.ListN.{length, getD}
 use mir.Syntax.{w16, w32}
 use mir.Val.{SFits}
-use Rattle.pcm.specs.declared.filters.FilterMemory.{FilterMemory}
+use Rattle.filters.specs.declared.FilterMemory.{FilterMemory}
 use Rattle.pcm.specs.Samples.{All}
 use Rattle.biquad.specs.Recurrence.{floats}
 use Rattle.stage.specs.declared.StageKind.{StageKind}
 use Rattle.stage.specs.declared.StageKind.the-variants as kind
-use Rattle.stage.specs.declared.SoundMemory.{SoundMemory}
 use Rattle.stage.specs.declared.Stage.{Stage}
 use Rattle.pipeline.specs.declared.Pipeline.{Pipeline}
 
@@ -67,12 +66,6 @@ SmallKind (kind.Biquad b) = b .coefficients ≡ floats (b .bits)
 pub record Small (s : Stage) : Type 0 where
   pub kind : SmallKind (s .kind)
   pub phase : s .memory .resampler .phase < 4294967296
-
--- ---- a memory that words give back
-pub record Kept (m : SoundMemory) : Type 0 where
-  pub filter : HeldFilter (m .filter)
-  pub last : TwoSamples (m .resampler .last)
-  pub phase : m .resampler .phase < 4294967296
 
 -- ---- a chain
 pub record Storable (c : Pipeline) : Type 0 where

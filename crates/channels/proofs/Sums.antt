@@ -4,7 +4,7 @@ use lib.IntN.{ℤ, _+ℤ_}
 use mir.Syntax.{w16, w32}
 use mir.Val.{SFits}
 use mir.Facts.{sfits-widen}
-use Rattle.pcm.specs.Integers.{add-within, fits-within, within-fits}
+use Rattle.pcm.specs.laws.Integers.{add-within, fits-within, within-fits}
 
 pub record Summed (a b : ℤ) : Type 0 where
   pub left : SFits w32 a

@@ -2,7 +2,7 @@
 use mathlib.Core.Path.{_≡_}
 use lib.IntN.{ℤ}
 use lib.Ieee.{Float, binary32, ofInt}
-use Rattle.pcm.specs.Filters.{Taps}
+use Rattle.filters.specs.Filters.{Taps}
 use Rattle.dc_block.specs.DcBlock.{blocked, dcTick}
 
 pub ticked : (r : Float) (t : Taps) {z z′ : ℤ} {y : Float} → y ≡ blocked r (ofInt binary32 z) (t .x1) (t .y1) → z ≡ z′

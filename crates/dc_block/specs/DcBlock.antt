@@ -5,7 +5,7 @@ use lib.IntN.{ℤ, pos}
 use lib.Ieee.{Float, binary32, ofInt, ofBits}
 use Rattle.pcm.specs.declared.Error.the-variants.{InvalidFormat}
 use Rattle.pcm.specs.Formats.{rateAllowed}
-use Rattle.pcm.specs.Filters.{Taps, plusZero, _⊕_, _⊖_, _⊗_, _⊘_}
+use Rattle.filters.specs.Filters.{Taps, plusZero, _⊕_, _⊖_, _⊗_, _⊘_}
 use Rattle.dc_block.specs.declared.DcBlock.{DcBlock}
 use Rattle.dc_block.specs.declared.PoleAnswer.{PoleAnswer}
 use Rattle.dc_block.specs.declared.PoleAnswer.the-variants.{Pole, Refused}

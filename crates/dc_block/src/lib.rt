@@ -3,12 +3,12 @@ ghost use mathlib.Core.Path.{_≡_};
 ghost use mathlib.Core.Bool.{true};
 ghost use lib.IntN.{pos};
 ghost use lib.Ieee.{binary32, ofBits, ofInt};
-ghost use Rattle.pcm.specs.Floats.{patternOf};
+ghost use Rattle.floats.specs.Floats.{patternOf};
 ghost use Rattle.pcm.specs.Formats.{rateAllowed};
-ghost use Rattle.pcm.specs.Filters.{FilterBlock, FilteredBlock};
+ghost use Rattle.filters.specs.Filters.{FilterBlock, FilteredBlock};
 ghost use Rattle.dc_block.specs.DcBlock.{blocked, dcTick, poleOf, poleAnswer, untuned};
+use filters::FilterMemory;
 use pcm::Error;
-use pcm::filters::FilterMemory;
 
 // 2π as a binary32.
 const TAU: f32 = 6.2831855;
@@ -35,7 +35,7 @@ impl DcBlock {
     pub fn with_corner(corner: f32) -> DcBlock
         ensures { λ b. ⌜ b ≡ untuned (patternOf corner) ⌝ }
     {
-        DcBlock::from_bits(pcm::floats::bits_of_float(corner))
+        DcBlock::from_bits(floats::bits_of_float(corner))
     }
 
     // The corner by its bits, of any value.
@@ -62,7 +62,7 @@ impl DcBlock {
     {
         DcBlock {
             corner: self.corner,
-            r: radius(pcm::floats::float_of_bits(self.corner), rate),
+            r: radius(floats::float_of_bits(self.corner), rate),
         }
     }
 
@@ -112,7 +112,7 @@ fn mono(input: &[u8], out: &mut [u8], r: f32, memory: FilterMemory) -> FilterMem
         let x = pcm::get_i16(input, i) as f32;
         y1 = output(r, x, x1, y1);
         x1 = x;
-        pcm::put_i16(out, i, pcm::round_sat16(y1));
+        pcm::put_i16(out, i, floats::round_sat16(y1));
         i += 2;
     }
     let x2 = memory.x2;
@@ -142,8 +142,8 @@ fn stereo(input: &[u8], out: &mut [u8], r: f32, memory: FilterMemory) -> FilterM
         ry1 = output(r, rx, rx1, ry1);
         lx1 = lx;
         rx1 = rx;
-        pcm::put_i16(out, i, pcm::round_sat16(ly1));
-        pcm::put_i16(out, i + 2, pcm::round_sat16(ry1));
+        pcm::put_i16(out, i, floats::round_sat16(ly1));
+        pcm::put_i16(out, i + 2, floats::round_sat16(ry1));
         i += 4;
     }
     let x2 = memory.x2;

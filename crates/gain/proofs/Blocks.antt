@@ -7,8 +7,9 @@ use lib.IntN.{ℤ}
 use lib.ListN.{length, drop}
 use Rattle.pcm.specs.Samples.{sampleAt, stored}
 use Rattle.pcm.specs.Frames.{written}
-use Rattle.pcm.specs.Writing.{Writing, writing-start, writing-as, writing-put, writing-end, next-pair}
-use Rattle.gain.specs.Gain.{scaled, scaledBytes, length-scaled}
+use Rattle.pcm.specs.laws.Writing.{Writing, writing-start, writing-as, writing-put, writing-end, next-pair}
+use Rattle.gain.specs.Gain.{scaled, scaledBytes}
+use Rattle.gain.specs.laws.Gain.{length-scaled}
 
 -- the samples before byte i of `input` are scaled into `out`
 pub record Scaling (q : ℤ) (input : List ℕ) (n : ℕ) (out₀ out : List ℕ) (i : ℕ) : Type 0 where

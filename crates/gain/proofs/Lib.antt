@@ -1,2 +1,2 @@
-mod Products
 mod Blocks
+mod Products

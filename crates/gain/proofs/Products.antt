@@ -1,15 +1,16 @@
 -- The products of a sample and a factor, by their sizes, and the product taken in two parts. Assumes nothing.
-use mathlib.Core.Path.{_≡_, refl, sym, ap, ap₂, _∙_, subst}
+use mathlib.Core.Path.{_≡_, sym, ap, ap₂, _∙_, subst}
 use mathlib.Core.Bool.{false}
-use Prim.Native.Nat.{ℕ, zero, suc, _+_, _-_, _*_, _/_, _^_, _≤_, _<_}
+use Prim.Native.Nat.{ℕ, suc, _+_, _-_, _*_, _/_, _^_, _≤_, _<_}
 use native.Mathlib.Omega.{arith}
-use borrow.Author.Tests.{le-ltb, ltb-false}
+use borrow.Author.Tests.{ltb-false}
 use lib.Dec.{lit<}
-use lib.IntN.{ℤ, pos, negsuc, negℤ, natAbs, _+ℤ_, _-ℤ_, _*ℤ_, +ℤ-assoc, +ℤ-comm, *ℤ-comm, negℤ-negℤ, -ℤ-+ℤ-cancel}
+use lib.IntN.{ℤ, pos, negsuc, natAbs, _+ℤ_, _-ℤ_, _*ℤ_, +ℤ-assoc, +ℤ-comm, *ℤ-comm, negℤ-negℤ, -ℤ-+ℤ-cancel}
 use lib.Signed.{ltZ}
 use mir.Syntax.{Width, w16, w32}
 use mir.Val.{SFits, hbits}
-use Rattle.pcm.specs.Integers.{floorDiv, floor-add, floor-fits, +ℤ-*ℤ, *ℤ-assoc, pos-sub-pos, sub-ge, abs-self, mul-within, add-within, floor-within, fits-within, within-fits}
+use Rattle.pcm.specs.Integers.{floorDiv}
+use Rattle.pcm.specs.laws.Integers.{floor-add, floor-fits, +ℤ-*ℤ, *ℤ-assoc, pos-sub-pos, sub-ge, abs-self, mul-within, add-within, floor-within, fits-within, within-fits}
 
 -- x * q and x * q + 16,384 fit the width w
 pub record Sized (w : Width) (x q : ℤ) : Type 0 where

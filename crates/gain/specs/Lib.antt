@@ -1,1 +1,3 @@
 pub mod Gain
+pub mod Theorems
+pub mod laws

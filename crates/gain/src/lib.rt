@@ -6,7 +6,6 @@ ghost use lib.ListN.{length};
 ghost use Rattle.pcm.specs.Samples.{held16};
 ghost use Rattle.pcm.specs.Frames.{written};
 ghost use Rattle.gain.specs.Gain.{factorAllowed, heldFactor, linearFactor, scaled, scaledBytes, unity};
-use pcm::floats;
 
 pub struct Gain {
     pub q15: i32,

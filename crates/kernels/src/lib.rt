@@ -4,7 +4,7 @@ ghost use Prim.Native.Nat.{_*_, _/_, _%_, _≤_};
 ghost use lib.IntN.{natAbs};
 ghost use lib.ListN.{length};
 ghost use Rattle.pcm.specs.Frames.{framesOf, bytesOf, written};
-ghost use Rattle.pcm.specs.Filters.{FilterBlock, filtered, tapsOf, memoryAtRest};
+ghost use Rattle.filters.specs.Filters.{FilterBlock, filtered, tapsOf, memoryAtRest};
 ghost use Rattle.dc_block.specs.DcBlock.{dcTick};
 ghost use Rattle.biquad.specs.Recurrence.{biquadTick};
 ghost use Rattle.gain.specs.Gain.{scaledBytes};
@@ -13,12 +13,12 @@ ghost use Rattle.kernels.specs.Opened.{openedOutput};
 ghost use Rattle.channels.specs.Channels.{stereoBytes, monoBytes, mixVerdict, afterMix};
 ghost use Rattle.pcm.specs.Refusals.{numberOf};
 use biquad::Biquad;
-use biquad::Coefficients;
+use cookbook::Coefficients;
 use dc_block::DcBlock;
+use filters::FilterMemory;
 use gain::Gain;
-use pcm::filters::FilterMemory;
-use resample::LinearResampler;
-use resample::ResamplerState;
+use rates::LinearResampler;
+use rates::ResamplerState;
 
 #[no_mangle]
 pub extern "C" fn gain_block(q15: i32, input: &[u8], out: &mut [u8])
@@ -101,7 +101,5 @@ pub extern "C" fn resample_block(
         in_r,
         out_r,
     };
-    stage
-        .process(ResamplerState::new(), channels, input, out)
-        .frames
+    resample::process(stage, ResamplerState::new(), channels, input, out).frames
 }

@@ -1,3 +1,1 @@
 pub mod Results
-pub mod Stands
-pub mod Opened

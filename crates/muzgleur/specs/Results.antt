@@ -1,5 +1,5 @@
 -- What the exported calls answer and leave in the words: number and values for each case of the library's answers (document 01, 'The questions'). Definitions only.
-use mathlib.Core.Bool.{Bool, true, false, cond}
+use mathlib.Core.Bool.{Bool, cond}
 use mathlib.Core.List.{List}
 use Prim.Native.Nat.{ℕ, _≤_}
 use lib.Dec.{leb}

@@ -1,5 +1,2 @@
-mod Nan
-mod HalfUp
-mod Ties
-mod Short
 mod Words
+mod Writing

@@ -1,7 +1,7 @@
 -- A sample as the machine reads and writes it: 16 bits moved up by half the range, and down again. Assumes nothing.
 use mathlib.Core.Path.{_≡_, refl, sym, ap, _∙_, subst}
 use mathlib.Core.Logic.{⊎-elim}
-use Prim.Native.Nat.{ℕ, zero, suc, _+_, _-_, _*_, _/_, _%_, _≤_, _<_}
+use Prim.Native.Nat.{ℕ, suc, _+_, _-_, _*_, _%_, _≤_, _<_}
 use native.Mathlib.Omega.{arith}
 use borrow.Author.Tests.{lt-ltb, le-ltb}
 use lib.Dec.{T}
@@ -9,9 +9,9 @@ use lib.IntN.{ℤ, pos, negsuc, _+ℤ_, _-ℤ_, natAbs}
 use lib.Signed.{nonNeg}
 use mir.Syntax.{w16, w32}
 use mir.Val.{SFits, Fits, toZ, ofZ}
-use mir.Facts.{toZ-ofZ, toZ-pos, sfits-widen}
+use mir.Facts.{toZ-pos}
 use Rattle.pcm.specs.Samples.{sampleOf}
-use Rattle.pcm.proofs.Nan.{lt-or-ge}
+use Rattle.pcm.specs.laws.Tests.{lt-or-ge}
 
 unbias : (u : ℕ) → u < 65536 → pos ((u + 32768) % 65536) -ℤ pos 32768 ≡ toZ w16 u
 unbias u h = ⊎-elim

@@ -1,9 +1,6 @@
-pub mod Integers
 pub mod Formats
-pub mod Refusals
-pub mod Rounding
-pub mod Floats
-pub mod Samples
 pub mod Frames
-pub mod Writing
-pub mod Filters
+pub mod Integers
+pub mod Refusals
+pub mod Samples
+pub mod laws

@@ -6,10 +6,6 @@ ghost use Rattle.pcm.specs.Formats.{rateAllowed, formatAllowed, frameByt
 ghost use Rattle.pcm.specs.Refusals.{refusal, numberOf, roomVerdict};
 ghost use Rattle.pcm.specs.Samples.{held16, sampleOf, sampleAt, stored};
 ghost use Rattle.pcm.specs.Frames.{written};
-ghost use Rattle.pcm.specs.Rounding.{roundSat};
-
-pub mod filters;
-pub mod floats;
 
 pub const MAX_CHANNELS: u16 = 2;
 
@@ -146,13 +142,6 @@ pub fn sat16(v: i32) -> i16
         return 32767;
     }
     v as i16
-}
-
-// To the nearest whole number, halves away from zero, held within the sample range; a NaN gives 0.
-pub fn round_sat16(v: f32) -> i16
-    ensures { λ r. ⌜ r ≡ roundSat 32768 32767 v ⌝ }
-{
-    floats::round_held(floats::hold16(v), 32768, 32767) as i16
 }
 
 // The sample that two bytes hold.

@@ -1,2 +1,3 @@
 mod Opens
-mod Places
+mod OpeningLaws
+mod ResetLaws

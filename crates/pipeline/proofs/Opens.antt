@@ -1,6 +1,6 @@
 -- The invariant of opening: the stages so far, and what is left to open. Assumes nothing.
 use mathlib.Core.Path.{_≡_, refl, sym, ap, _∙_}
-use mathlib.Core.Bool.{Bool, true, false, _&&_}
+use mathlib.Core.Bool.{true, false}
 use mathlib.Core.List.{List, [], _∷_, _++_, append-assoc, append-nil}
 use Prim.Native.Nat.{ℕ, suc, _+_, _-_, _≤_, _<_}
 use native.Mathlib.Omega.{arith}
@@ -14,13 +14,17 @@ use Rattle.pcm.specs.Formats.{rateAllowed, formatAllowed, channelsAllowed}
 use Rattle.stage.specs.declared.StageKind.{StageKind}
 use Rattle.stage.specs.declared.Stage.{Stage}
 use Rattle.stage.specs.Stages.{stageAsOpened, formatAfter}
+use Rattle.pcm.specs.laws.Tests.{both}
 use Rattle.recipe.specs.declared.Record.{Record}
 use Rattle.recipe.specs.declared.RecordAnswer.the-variants as read
-use Rattle.recipe.specs.Records.{recordBytes, recordAt, recordVerdict, readRecord, whole-record}
-use Rattle.recipe.specs.RoundTrip.{size-within}
-use Rattle.pipeline.specs.declared.opening.StageAnswer.the-variants as answer
-use Rattle.pipeline.specs.Opening.{Stages, opened, refused, stageAnswer, stageVerdict, stageKindOf, front, afterNext, openStages, chainOf, openCall, unusedStage}
-use Rattle.pipeline.specs.OpeningLaws.{read-accepted, read-refused, stage-accepted, stage-refused, stage-fits, rate-after, open-none, open-short, open-unfit, open-next}
+use Rattle.recipe.specs.Records.{recordBytes, recordAt, recordVerdict, readRecord}
+use Rattle.recipe.specs.laws.Records.{whole-record}
+use Rattle.recipe.specs.laws.RoundTrip.{size-within}
+use Rattle.opening.specs.declared.StageAnswer.the-variants as answer
+use Rattle.pipeline.specs.Opening.{Stages, opened, refused, front, afterNext, openStages, chainOf, openCall, unusedStage}
+use Rattle.opening.specs.Opening.{stageAnswer, stageVerdict, stageKindOf}
+use Rattle.pipeline.proofs.OpeningLaws.{read-accepted, read-refused, rate-after}
+use Rattle.pipeline.specs.laws.Opening.{stage-accepted, stage-refused, stage-fits, open-none, open-short, open-unfit, open-next}
 
 -- stages before what is left to open
 abbrev pub joined : List Stage → Stages → Stages
@@ -45,10 +49,6 @@ pub record Opens (f : PcmFormat) (bytes : List ℕ) (stages : List Stage) (reach
   pub within : at ≤ length bytes
   pub is : openStages 8 f bytes ≡ joined done (openStages (8 - count) reaching (drop at bytes))
 
-both : (a b : Bool) → (a && b) ≡ true → b ≡ true
-both true b e = e
-both false b e = let z : _≡_ {A = ℕ} 0 1 = cc in absurd (let w : ⊥ = omega arith in w)
-
 pub opens-start : (f : PcmFormat) (bytes : List ℕ) → formatAllowed f ≡ true → Opens f bytes (replicate 8 unusedStage) f 0 0
 unfolding formatAllowed
 opens-start f bytes h = record {
@@ -56,7 +56,7 @@ opens-start f bytes h = record {
   many = refl;
   few = omega arith;
   placed = refl;
-  rate = both (channelsAllowed (f .channels)) (rateAllowed (f .rate)) h;
+  rate = both (channelsAllowed (f .channels)) (rateAllowed (f .rate)) h .1;
   within = omega arith;
   is = joined-none (openStages 8 f bytes);
 }

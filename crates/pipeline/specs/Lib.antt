@@ -1,5 +1,6 @@
 pub mod Opening
-pub mod OpeningLaws
-pub mod WritingBack
 pub mod Reset
+pub mod Theorems
 pub mod RoundTrip
+pub mod WritingBack
+pub mod laws

@@ -1,78 +1,22 @@
 -- Opening a chain: the questions in their order, from a format and bytes to a chain or a refusal (document 01, 'The recipe' and 'The questions'). Definitions only.
-use mathlib.Core.Bool.{Bool, true}
 use mathlib.Core.List.{List, [], _∷_, _++_}
 use Prim.Native.Nat.{ℕ, zero, suc, _-_}
-use lib.Dec.{leb, ltb, eqb}
-use lib.Ieee.{binary32, ofBits}
-use Rattle.gain.specs.Gain.{factorAllowed}
 use lib.ListN.{length, drop, replicate}
 use Rattle.pcm.specs.declared.PcmFormat.{PcmFormat}
 use Rattle.pcm.specs.declared.Error.{Error}
-use Rattle.pcm.specs.declared.Error.the-variants.{InvalidFormat, Unsupported, TooManyStages, SettingOutOfRange}
+use Rattle.pcm.specs.declared.Error.the-variants.{InvalidFormat}
 use Rattle.pcm.specs.declared.Verdict.{Verdict}
 use Rattle.pcm.specs.declared.Verdict.the-variants as verdict
-use Rattle.pcm.specs.Formats.{formatAllowed, rateAllowed}
+use Rattle.pcm.specs.Formats.{formatAllowed}
 use Rattle.pcm.specs.Refusals.{ask}
-use Rattle.dc_block.specs.DcBlock.{poleOf}
-use Rattle.biquad.specs.Recurrence.{floats}
-use Rattle.resample.specs.Opening.{ratesAllowed, reduced}
 use Rattle.stage.specs.declared.StageKind.{StageKind}
 use Rattle.stage.specs.declared.StageKind.the-variants as kind
 use Rattle.stage.specs.declared.Stage.{Stage}
 use Rattle.stage.specs.Stages.{stageAsOpened, formatAfter}
-use Rattle.recipe.specs.declared.Record.{Record}
-use Rattle.recipe.specs.declared.Record.the-variants as rec
 use Rattle.recipe.specs.Records.{recordBytes, recordAt, recordVerdict}
 use Rattle.pipeline.specs.declared.Pipeline.{Pipeline}
 use Rattle.pipeline.specs.declared.Opened.{Opened}
-use Rattle.pipeline.specs.declared.opening.StageAnswer.{StageAnswer}
-use Rattle.pipeline.specs.declared.opening.StageAnswer.the-variants as answer
-
--- ---- one record: are gain and rates within their limits?
-abbrev pub settingsAllowed : Record → Bool
-settingsAllowed (rec.Gain q15) = factorAllowed q15
-settingsAllowed rec.MonoToStereo = true
-settingsAllowed rec.StereoToMono = true
-settingsAllowed (rec.Resample input output) = ratesAllowed input output
-settingsAllowed (rec.DcBlock corner) = true
-settingsAllowed (rec.Biquad rate bits) = rateAllowed rate
-
--- does the channel count that reaches the stage suit it, and does the rate equal a resampler's input rate or a biquad's rate?
-abbrev pub recordSuits : PcmFormat → Record → Bool
-recordSuits f (rec.Gain q15) = true
-recordSuits f rec.MonoToStereo = eqb (f .channels) 1
-recordSuits f rec.StereoToMono = eqb (f .channels) 2
-recordSuits f (rec.Resample input output) = eqb (f .rate) input
-recordSuits f (rec.DcBlock corner) = true
-recordSuits f (rec.Biquad rate bits) = eqb (f .rate) rate
-
--- is it among the first eight, where so many more are allowed? else 8. Are gain and rates within their limits? else 9. Does the format suit it? else 2.
-unfoldable pub stageVerdict : ℕ → PcmFormat → Record → Verdict
-stageVerdict more f r =
-    ask (ltb 0 more) TooManyStages
-    (ask (settingsAllowed r) SettingOutOfRange
-    (ask (recordSuits f r) Unsupported
-    verdict.Accepted))
-
--- the stage of a record. The DC pole is worked out at the rate that reaches it
-abbrev pub stageKindOf : PcmFormat → Record → StageKind
-stageKindOf f (rec.Gain q15) = kind.Gain (record { q15 = q15 })
-stageKindOf f rec.MonoToStereo = kind.MonoToStereo
-stageKindOf f rec.StereoToMono = kind.StereoToMono
-stageKindOf f (rec.Resample input output) = kind.Resample (reduced input output)
-stageKindOf f (rec.DcBlock corner) = kind.DcBlock (record { corner = corner; r = poleOf (ofBits binary32 corner) (f .rate) })
-stageKindOf f (rec.Biquad rate bits) = kind.Biquad (record { rate = rate; coefficients = floats bits; bits = bits })
-
-abbrev pub answerOf : Verdict → StageKind → StageAnswer
-answerOf verdict.Accepted k = answer.Stage k
-answerOf (verdict.Refused e) k = answer.Refused e
-
-abbrev pub stageAnswer : ℕ → PcmFormat → Record → StageAnswer
-stageAnswer more f r = answerOf (stageVerdict more f r) (stageKindOf f r)
-
-abbrev pub verdictOf : StageAnswer → Verdict
-verdictOf (answer.Stage k) = verdict.Accepted
-verdictOf (answer.Refused e) = verdict.Refused e
+use Rattle.opening.specs.Opening.{stageVerdict, stageKindOf}
 
 -- ---- all records
 pub data Stages : Type 0 where

@@ -1,8 +1,10 @@
 // A chain of stages, carried by value (pipeline.rs): opened from a recipe and written back to it.
 ghost use mathlib.Core.Path.{_≡_};
-ghost use Rattle.pipeline.specs.Opening.{openCall};
+ghost use Rattle.pipeline.specs.Opening.{openCall, unusedStage, chainOf};
 ghost use Rattle.pipeline.specs.WritingBack.{writeCall};
 ghost use Rattle.pipeline.specs.Reset.{outputFormat, resetCall};
+ghost use lib.ListN.{replicate};
+ghost use mathlib.Core.List.{[]};
 use opening::StageAnswer;
 use pcm::Error;
 use pcm::PcmFormat;
@@ -11,9 +13,6 @@ use recipe::Record;
 use recipe::RecordAnswer;
 use stage::Stage;
 use stage::StageKind;
-
-mod opening;
-mod writing;
 
 // The stages in use are the first `count`; `format` is what reaches the first.
 pub struct Pipeline {
@@ -36,26 +35,49 @@ pub enum WriteAnswer {
     Refused(Error),
 }
 
+// Eight places not in use.
+fn no_stages() -> [Stage; 8]
+    ensures { λ r. ⌜ r ≡ replicate 8 unusedStage ⌝ }
+{
+    let unused = Stage::new(StageKind::MonoToStereo);
+    [unused; 8]
+}
+
+// The answer of an opening that was refused.
+fn unopened(format: PcmFormat, verdict: Verdict) -> Opened
+    ensures { λ r. ⌜ r ≡ record { verdict = verdict; chain = chainOf format [] } ⌝ }
+{
+    let stages = no_stages();
+    let chain = Pipeline {
+        stages,
+        count: 0,
+        format,
+        blocks: 0,
+        empty_blocks: 0,
+    };
+    Opened { verdict, chain }
+}
+
 impl Pipeline {
     // The chain of a recipe, for sound of this format.
     pub fn open(format: PcmFormat, recipe: &[u8]) -> Opened
         ensures { λ r. ⌜ r ≡ openCall format (now (recipe .entry)) ⌝ }
     {
         if !format.allowed() {
-            return opening::unopened(format, Verdict::Refused(Error::InvalidFormat));
+            return unopened(format, Verdict::Refused(Error::InvalidFormat));
         }
-        let mut stages = opening::no_stages();
+        let mut stages = no_stages();
         let mut reaching = format;
         let mut count: usize = 0;
         let mut at: usize = 0;
         while at < recipe.len() {
             let answer = Record::read(&recipe[at..]);
             let RecordAnswer::Record(record) = answer else {
-                return opening::unopened(format, answer.verdict());
+                return unopened(format, answer.verdict());
             };
             let made = opening::stage_of(reaching, count, record);
             let StageAnswer::Stage(kind) = made else {
-                return opening::unopened(format, made.verdict());
+                return unopened(format, made.verdict());
             };
             let next = Stage::new(kind);
             stages[count] = next;

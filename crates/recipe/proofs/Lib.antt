@@ -1,1 +1,1 @@
-mod Signs
+mod Records

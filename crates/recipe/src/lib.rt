@@ -4,14 +4,12 @@ ghost use mathlib.Core.Bool.{true};
 ghost use Prim.Native.Nat.{_+_, _*_, _≤_, _<_};
 ghost use lib.ListN.{length, drop};
 ghost use Rattle.pcm.specs.Frames.{written};
-ghost use Rattle.recipe.specs.Words.{words, wordsBytes};
+ghost use Rattle.words.specs.Words.{words, wordsBytes};
 ghost use lib.Seq.{sets};
-ghost use Rattle.recipe.specs.Records.{known, fieldCount, recordVerdict, recordOf, readRecord, verdictOf, recordBytes, kindOf, fieldsOf};
+ghost use Rattle.recipe.specs.Records.{known, fieldCount, recordVerdict, recordOf, readRecord, recordAnswerVerdict, recordBytes, kindNumber, fieldsOf};
 use biquad::CoefficientBits;
 use pcm::Error;
 use pcm::Verdict;
-
-pub mod words;
 
 // A record's fields as its bytes give them.
 pub enum Record {
@@ -31,7 +29,7 @@ pub enum RecordAnswer {
 impl RecordAnswer {
     // What the questions came to.
     pub fn verdict(self) -> Verdict
-        ensures { λ r. ⌜ r ≡ verdictOf self ⌝ }
+        ensures { λ r. ⌜ r ≡ recordAnswerVerdict self ⌝ }
     {
         match self {
             RecordAnswer::Record(_) => Verdict::Accepted,
@@ -141,7 +139,7 @@ impl Record {
     }
 
     fn kind(self) -> u16
-        ensures { λ r. ⌜ r ≡ kindOf self ⌝ }
+        ensures { λ r. ⌜ r ≡ kindNumber self ⌝ }
     {
         match self {
             Record::Gain { q15: _ } => 1,

@@ -5,12 +5,12 @@ use crate::Step;
 use crate::input;
 use crate::input::Count;
 use crate::output;
-use biquad::BiquadKind;
-use biquad::Coefficients;
-use biquad::DesignAnswer;
 use block::Answer;
 use block::Half;
 use block::Scratch;
+use cookbook::BiquadKind;
+use cookbook::Coefficients;
+use cookbook::DesignAnswer;
 use dc_block::DcBlock;
 use dc_block::PoleAnswer;
 use gain::Gain;
@@ -19,10 +19,9 @@ use pcm::PcmFormat;
 use pcm::Verdict;
 use pipeline::Pipeline;
 use pipeline::WriteAnswer;
-use recipe::words;
-use resample::LinearResampler;
-use resample::MaxFrames;
-use resample::NewResampler;
+use rates::LinearResampler;
+use rates::MaxFrames;
+use rates::NewResampler;
 
 // Rate and channels at the front of a command's fields.
 fn format_of(s: &[u8]) -> PcmFormat
@@ -37,7 +36,7 @@ fn format_of(s: &[u8]) -> PcmFormat
 fn get_float(s: &[u8], i: usize) -> f32
     requires { ⌜ i + 3 < length (now s) ⌝ }
 {
-    pcm::floats::float_of_bits(words::get_u32(s, i))
+    floats::float_of_bits(words::get_u32(s, i))
 }
 
 // The binary64 that a pattern stands for.
@@ -435,7 +434,7 @@ pub fn round_sat16() -> bool {
     if !input::filled(&mut s) {
         return false;
     }
-    output::sample(pcm::round_sat16(get_float(&s, 0)));
+    output::sample(floats::round_sat16(get_float(&s, 0)));
     true
 }
 

@@ -2,7 +2,6 @@
 ghost use Prim.Native.Nat.{_+_, _<_};
 ghost use lib.ListN.{length};
 ghost use Rattle.io.specs.Counts.{Counts};
-use recipe::words;
 
 // How many bytes stand at the front of a buffer; the end where the script ends inside them.
 pub enum Count {

@@ -1,5 +1,4 @@
 // The fields of an answer, written to standard output, low byte first.
-use recipe::words;
 
 pub fn byte(x: u8) {
     io::write_all(1, &[x]);
@@ -37,7 +36,7 @@ pub fn bytes(s: &[u8]) {
 
 // A float's bits, the same for every NaN.
 pub fn float(x: f32) {
-    word(pcm::floats::bits_of_float(x));
+    word(floats::bits_of_float(x));
 }
 
 // The two bytes of a sample.

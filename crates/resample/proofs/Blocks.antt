@@ -10,16 +10,21 @@ use lib.IntN.{ℤ, pos}
 use lib.ListN.{length, getD}
 use mir.Syntax.{w16}
 use mir.Val.{SFits, toZ, ofZ}
-use Rattle.pcm.specs.Integers.{read-back}
+use Rattle.pcm.specs.laws.Integers.{read-back}
 use Rattle.pcm.specs.Samples.{sampleAt}
-use Rattle.pcm.specs.Frames.{Frame, framesOf, length-frames, length-frame, sample-of}
-use Rattle.resample.specs.Counting.{tabulate, tabulate-ext, list-is, count, past, count-reach, past-below}
-use Rattle.resample.specs.Resample.{newest, padded, holding, outputs, output, next}
-use Rattle.resample.specs.Cut.{outputs-same}
-use Rattle.resample.specs.Place.{Parts, frame-is, past-frames}
-use Rattle.resample.specs.Stage.{start, Ready, Looped, Processed, output-by-loop, next-by-loop}
+use Rattle.pcm.specs.Frames.{Frame, framesOf}
+use Rattle.pcm.specs.laws.Frames.{length-frames, length-frame, sample-of}
+use Rattle.rates.specs.Counting.{tabulate, count, past}
+use Rattle.rates.specs.laws.Counting.{tabulate-ext, list-is, count-reach, past-below}
+use Rattle.resample.specs.Resample.{newest, padded, holding, outputsFrom, carriedOutputs, carriedState}
+use Rattle.resample.specs.laws.Cut.{outputs-same}
+use Rattle.resample.specs.Place.{Parts}
+use Rattle.resample.proofs.Place.{frame-is, past-frames}
+use Rattle.rates.specs.Rates.{start}
+use Rattle.resample.specs.Stage.{Ready, Looped, Processed}
+use Rattle.resample.proofs.Stage.{output-by-loop, next-by-loop}
 use Rattle.resample.specs.declared.Delivered.{Delivered}
-use Rattle.resample.specs.declared.ResamplerState.{ResamplerState}
+use Rattle.rates.specs.declared.ResamplerState.{ResamplerState}
 use Rattle.resample.proofs.Interpolating.{total}
 
 newest-is : (x : Frame) (ys : List Frame) → 0 < length ys → newest x ys ≡ getD ys (length ys - 1) []
@@ -40,7 +45,7 @@ stereo-same l f g zero h = sym (read-back f)
 stereo-same l f g (suc zero) h = sym (read-back g)
 stereo-same l f g (suc (suc c)) h = absurd (let z : ⊥ = omega arith in z)
 
-module _ (ch i o : ℕ) (s : ResamplerState) (x : Frame) (input out₀ : List ℕ) (r : Ready ch i o (output i o s (framesOf ch input)) input out₀)
+module _ (ch i o : ℕ) (s : ResamplerState) (x : Frame) (input out₀ : List ℕ) (r : Ready ch i o (carriedOutputs i o s (framesOf ch input)) input out₀)
     (same : (c : ℕ) → c < ch → getD (s .last) c (pos 0) ≡ getD x c (pos 0)) where
   abbrev ys : List Frame
   ys = framesOf ch input
@@ -58,10 +63,10 @@ module _ (ch i o : ℕ) (s : ResamplerState) (x : Frame) (input out₀ : List �
   some-frames : 0 < length ys
   some-frames = rw (length-frames ch input) some-frame
 
-  by-loop : output i o s ys ≡ outputs i o num (x ∷ ys)
+  by-loop : carriedOutputs i o s ys ≡ outputsFrom i o num (x ∷ ys)
   by-loop = output-by-loop i o s ys some-frames ∙ outputs-same i o num (s .last) x ys (λ c h. same c (rw (length-frame ch input (r .whole) 0 some-frame) at h))
 
-  pub loop-ready : Ready ch i o (outputs i o (start o (s .primed) (s .phase)) (x ∷ framesOf ch input)) input out₀
+  pub loop-ready : Ready ch i o (outputsFrom i o (start o (s .primed) (s .phase)) (x ∷ framesOf ch input)) input out₀
   loop-ready = subst (λ (fs : List Frame). Ready ch i o fs input out₀) by-loop r
 
   -- the newest frame by its bytes
@@ -73,7 +78,7 @@ module _ (ch i o : ℕ) (s : ResamplerState) (x : Frame) (input out₀ : List �
       ∙ ap (λ (n : ℕ). tabulate n (λ c. getD (getD ys g []) c (pos 0))) (length-frame ch input (r .whole) g h)
       ∙ tabulate-ext ch (λ c. getD (getD ys g []) c (pos 0)) (λ c. sampleAt input ((g * ch + c) * 2)) (λ c k. sample-of ch input (r .whole) g c h k)
 
-  module _ (out : List ℕ) (d : Delivered) (l : Looped i o (start o (s .primed) (s .phase)) (outputs i o (start o (s .primed) (s .phase)) (x ∷ framesOf ch input)) out₀ out d) where
+  module _ (out : List ℕ) (d : Delivered) (l : Looped i o (start o (s .primed) (s .phase)) (outputsFrom i o (start o (s .primed) (s .phase)) (x ∷ framesOf ch input)) out₀ out d) where
     counted : d .frames ≡ count i num (length input / (ch * 2) * o)
     counted = l .frames-are ∙ total ch i o num x input out₀ loop-ready
 
@@ -95,7 +100,7 @@ module _ (ch i o : ℕ) (s : ResamplerState) (x : Frame) (input out₀ : List �
 
     pub block-done : (last : List ℤ) (p : ℕ) → last ≡ padded (tabulate ch (λ c. sampleAt input (((length input / (ch * 2) - 1) * ch + c) * 2)))
         → p ≡ (d .at .frame - length input / (ch * 2)) * o + (d .at .frac * o + d .at .over) / 4294967296
-        → Processed (output i o s (framesOf ch input)) (next i o s (framesOf ch input)) out₀ out (record { frames = d .frames; state = record { last = last; phase = p; primed = true } })
+        → Processed (carriedOutputs i o s (framesOf ch input)) (carriedState i o s (framesOf ch input)) out₀ out (record { frames = d .frames; state = record { last = last; phase = p; primed = true } })
     block-done last p e f = record {
       frames-are = rw by-loop (l .frames-are);
       bytes-are = rw by-loop (l .bytes-are);

@@ -9,13 +9,17 @@ use lib.IntN.{ℤ, pos}
 use lib.ListN.{length, getD, drop, drop-of-length-le}
 use lib.Seq.{drop-cons}
 use Rattle.pcm.specs.Samples.{All, sampleAt, lowOf, highOf}
-use Rattle.pcm.specs.Frames.{Frame, framesOf, bytesOf, written, length-frames, length-frame, length-bytes-sized, sample-of}
-use Rattle.pcm.specs.Writing.{Writing, writing-start, writing-done}
-use Rattle.resample.specs.Counting.{tabulate, tabulate-ext, length-tabulate, getD-tabulate, all-tabulate, count, count-before, count-after, count-least}
+use Rattle.pcm.specs.Frames.{Frame, framesOf, bytesOf, written}
+use Rattle.pcm.specs.laws.Frames.{length-frames, length-frame, length-bytes-sized, sample-of}
+use Rattle.pcm.specs.laws.Writing.{Writing, writing-start, writing-done}
+use Rattle.rates.specs.Counting.{tabulate, count}
+use Rattle.rates.specs.laws.Counting.{tabulate-ext, length-tabulate, getD-tabulate, all-tabulate, count-before, count-after, count-least}
 use Rattle.resample.specs.Value.{value, interpolated}
-use Rattle.resample.specs.Resample.{blend, outputAt, outputs}
-use Rattle.resample.specs.Place.{Parts, At, frame-is, frac-is}
-use Rattle.resample.specs.Stage.{earlierOf, earlier-first, earlier-inside, Ready, Looped}
+use Rattle.resample.specs.Resample.{blend, outputAt, outputsFrom}
+use Rattle.resample.specs.Place.{Parts, At}
+use Rattle.resample.proofs.Place.{frame-is, frac-is}
+use Rattle.resample.specs.Stage.{earlierOf, Ready, Looped}
+use Rattle.resample.proofs.Stage.{earlier-first, earlier-inside}
 use Rattle.resample.specs.declared.Position.{Position}
 
 -- ---- one output
@@ -84,16 +88,16 @@ pub record Turn (width k total room : ℕ) : Type 0 where
   pub fits : total * width ≤ room
   pub small : room < 2 ^ 64
 
-module _ (ch i o num : ℕ) (x : Frame) (input : List ℕ) (out₀ : List ℕ) (r : Ready ch i o (outputs i o num (x ∷ framesOf ch input)) input out₀) where
-  abbrev fs : List Frame
-  fs = outputs i o num (x ∷ framesOf ch input)
+module _ (ch i o num : ℕ) (x : Frame) (input : List ℕ) (out₀ : List ℕ) (r : Ready ch i o (outputsFrom i o num (x ∷ framesOf ch input)) input out₀) where
+  abbrev pub fs : List Frame
+  fs = outputsFrom i o num (x ∷ framesOf ch input)
 
   pub total : length fs ≡ count i num (length input / (ch * 2) * o)
-  unfolding outputs
+  unfolding outputsFrom
   total = length-tabulate (count i num (length (framesOf ch input) * o)) (λ j. outputAt o (x ∷ framesOf ch input) (num + j * i)) ∙ ap (λ (n : ℕ). count i num (n * o)) (length-frames ch input)
 
   sized : All (λ (f : Frame). length f ≡ ch) fs
-  unfolding outputs outputAt blend
+  unfolding outputsFrom outputAt blend
   sized = all-tabulate (λ (f : Frame). length f ≡ ch) (count i num (length (framesOf ch input) * o)) (λ j. outputAt o (x ∷ framesOf ch input) (num + j * i)) one
     where
       one : (j : ℕ) → j < count i num (length (framesOf ch input) * o) → length (outputAt o (x ∷ framesOf ch input) (num + j * i)) ≡ ch
@@ -108,7 +112,7 @@ module _ (ch i o num : ℕ) (x : Frame) (input : List ℕ) (out₀ : List ℕ) (
     bytes = rw zero-mul (writing-start (bytesOf fs) (length fs * (ch * 2)) out₀ (sym (length-bytes-sized ch fs sized)));
   }
 
-  module _ {out : List ℕ} {k : ℕ} {p : Position} (s : Progress ch i o num (outputs i o num (x ∷ framesOf ch input)) out₀ out k p) where
+  module _ {out : List ℕ} {k : ℕ} {p : Position} (s : Progress ch i o num (outputsFrom i o num (x ∷ framesOf ch input)) out₀ out k p) where
     -- a frame is due while the position lies in the block
     pub due : p .frame < length input / (ch * 2) → k < length fs
     due l = rw total (count-after i (r .in-r .0) num (length input / (ch * 2) * o) k
@@ -116,7 +120,7 @@ module _ (ch i o num : ℕ) (x : Frame) (input : List ℕ) (out₀ : List ℕ) (
 
     -- and it comes next
     pub next-frame : p .frame < length input / (ch * 2) → drop k fs ≡ outputAt o (x ∷ framesOf ch input) (num + k * i) ∷ drop (suc k) fs
-    unfolding outputs
+    unfolding outputsFrom
     next-frame l =
         drop-cons fs k [] (due l)
         ∙ ap (λ (f : Frame). f ∷ drop (suc k) fs) (getD-tabulate (count i num (length (framesOf ch input) * o)) (λ j. outputAt o (x ∷ framesOf ch input) (num + j * i)) k [] (rw length-tabulate at (due l)))

@@ -1,2 +1,4 @@
-mod Interpolating
 mod Blocks
+mod Interpolating
+mod Place
+mod Stage

@@ -1,24 +1,12 @@
 -- Each sample delivered, from any state: between its two neighbours in its channel, near the line, and within 16 bits. Assumes nothing.
-use mathlib.Core.Path.{_≡_, _∙_}
-use mathlib.Core.Bool.{Bool, true, false, cond}
+use mathlib.Core.Path.{_≡_}
 use mathlib.Core.List.{List, [], _∷_}
-use Prim.Native.Nat.{ℕ, zero, suc, _+_, _*_, _/_, _%_, _<_, suc-le-suc}
-use native.Mathlib.Nat.{not-suc-le-zero, le-of-suc-le-suc, mod-lt, div-lt-iff-lt-mul}
-use native.Mathlib.Omega.{arith}
-use lib.Dec.{eqb}
+use Prim.Native.Nat.{ℕ, suc, _/_, _%_, _<_}
 use lib.IntN.{ℤ, pos}
 use lib.ListN.{length, getD}
-use mir.Syntax.{w16}
-use mir.Val.{SFits}
-use mir.Facts.{sfits-lit}
 use Rattle.pcm.specs.Samples.{Samples}
-use Rattle.pcm.specs.Frames.{Frame, FrameOf, FramesOf}
-use Rattle.resample.specs.Counting.{tabulate, count, length-tabulate, getD-tabulate, all-tabulate, count-before, counted, factor}
-use Rattle.resample.specs.Value.{value, frac, Between, NearLine, interpolated-between, interpolated-fits, samples-apart, frac-below, value-near-line}
-use Rattle.resample.specs.Resample.{blend, outputAt, gaps, delivered, openedState, among, firstAt, outputs, output, resampled}
-use Rattle.resample.specs.Delivered.{output-is-delivered}
-use Rattle.resample.specs.declared.LinearResampler.{LinearResampler}
-use Rattle.resample.specs.declared.ResamplerState.{ResamplerState}
+use Rattle.pcm.specs.Frames.{Frame, FramesOf}
+use Rattle.resample.specs.Value.{value, Between, NearLine}
 
 -- sample c of frame g
 abbrev pub sampleIn : List Frame → ℕ → ℕ → ℤ
@@ -35,120 +23,3 @@ pub record DeliveredSample (o num : ℕ) (X : List Frame) (c : ℕ) (v : ℤ) : 
 abbrev pub FramesAfter : ℕ → List Frame → Type 0
 FramesAfter ch [] = Unit {0}
 FramesAfter ch (x ∷ xs) = Samples x × FramesOf ch xs
-
--- ---- what is known of one frame
-sample-at : (f : Frame) (c : ℕ) → Samples f → SFits w16 (getD f c (pos 0))
-sample-at [] c h = sfits-lit tt
-sample-at (x ∷ f) zero h = h .0
-sample-at (x ∷ f) (suc c) h = sample-at f c (h .1)
-
-frame-at : (ch : ℕ) (xs : List Frame) (g : ℕ) → FramesOf ch xs → g < length xs → FrameOf ch (getD xs g [])
-frame-at ch [] g a h = absurd (not-suc-le-zero h)
-frame-at ch (x ∷ xs) zero a h = a .0
-frame-at ch (x ∷ xs) (suc g) a h = frame-at ch xs g (a .1) (le-of-suc-le-suc h)
-
-newer-frame : (ch : ℕ) (X : List Frame) (g : ℕ) → FramesAfter ch X → g < gaps X → FrameOf ch (getD X (suc g) [])
-newer-frame ch [] g a h = absurd (not-suc-le-zero h)
-newer-frame ch (x ∷ xs) g a h = frame-at ch xs g (a .1) h
-
-older-samples : (ch : ℕ) (X : List Frame) (g : ℕ) → FramesAfter ch X → g < gaps X → Samples (getD X g [])
-older-samples ch [] g a h = absurd (not-suc-le-zero h)
-older-samples ch (x ∷ xs) zero a h = a .0
-older-samples ch (x ∷ xs) (suc g) a h = frame-at ch xs g (a .1) (omega arith) .fits
-
-both-there : (X : List Frame) (g : ℕ) → g < gaps X → suc g < length X
-both-there [] g h = absurd (not-suc-le-zero h)
-both-there (x ∷ xs) g h = suc-le-suc h
-
-pub blend-frame : (ch o : ℕ) (a b : Frame) (r : ℕ) → r < o → Samples a → FrameOf ch b → FrameOf ch (blend o a b r)
-unfolding blend
-blend-frame ch o a b r h p q = record {
-  size = length-tabulate (length b) (λ c. value o (getD a c (pos 0)) (getD b c (pos 0)) r) ∙ q .size;
-  fits = all-tabulate (SFits w16) (length b) (λ c. value o (getD a c (pos 0)) (getD b c (pos 0)) r)
-      (λ c k. interpolated-fits (getD a c (pos 0)) (getD b c (pos 0)) (frac o r) (frac-below o r h) (sample-at a c p) (sample-at b c (q .fits)));
-}
-
--- ---- an output from p on in steps of in_r
-module _ (ch i o p : ℕ) (X : List Frame) (a : FramesAfter ch X) (j : ℕ) (h : j < count i p (gaps X * o)) where
-  before : p + j * i < gaps X * o
-  before = count-before i (counted i p (gaps X * o) j h) p (gaps X * o) j h
-
-  some-rate : 0 < o
-  some-rate = factor (gaps X) o (p + j * i) before
-
-  gap : (p + j * i) / o < gaps X
-  gap = div-lt-iff-lt-mul some-rate .1 before
-
-  output-frame : FrameOf ch (outputAt o X (p + j * i))
-  unfolding outputAt
-  output-frame =
-      blend-frame ch o (getD X ((p + j * i) / o) []) (getD X (suc ((p + j * i) / o)) []) ((p + j * i) % o) (mod-lt (p + j * i) some-rate)
-      (older-samples ch X ((p + j * i) / o) a gap) (newer-frame ch X ((p + j * i) / o) a gap)
-
-  output-sample : (c : ℕ) → c < ch → DeliveredSample o (p + j * i) X c (getD (outputAt o X (p + j * i)) c (pos 0))
-  unfolding outputAt blend
-  output-sample c k =
-      let g : ℕ = (p + j * i) / o in
-      let r : (p + j * i) % o < o = mod-lt (p + j * i) some-rate in
-      let x : ℤ = sampleIn X g c in
-      let y : ℤ = sampleIn X (suc g) c in
-      let fx : SFits w16 x = sample-at (getD X g []) c (older-samples ch X g a gap) in
-      let n = newer-frame ch X g a gap in
-      let fy : SFits w16 y = sample-at (getD X (suc g) []) c (n .fits) in
-      let e : getD (tabulate (length (getD X (suc g) [])) (λ c. value o (sampleIn X g c) (sampleIn X (suc g) c) ((p + j * i) % o))) c (pos 0) ≡ value o x y ((p + j * i) % o) =
-      getD-tabulate (length (getD X (suc g) [])) (λ c. value o (sampleIn X g c) (sampleIn X (suc g) c) ((p + j * i) % o)) c (pos 0) (omega (arith, n .size)) in
-      record {
-        neighbours = both-there X g gap;
-        is = e;
-        between = rw e (interpolated-between (frac o ((p + j * i) % o)) (frac-below o ((p + j * i) % o) r) x y);
-        near-line = rw e (value-near-line o ((p + j * i) % o) r x y (samples-apart x y fx fy));
-      }
-
-module _ (ch i o : ℕ) where
-  outputs-frames : (p : ℕ) (X : List Frame) → FramesAfter ch X → FramesOf ch (outputs i o p X)
-  unfolding outputs
-  outputs-frames p X a = all-tabulate (FrameOf ch) (count i p (gaps X * o)) (λ j. outputAt o X (p + j * i)) (output-frame ch i o p X a)
-
-  outputs-sample : (p : ℕ) (X : List Frame) → FramesAfter ch X → (j c : ℕ) → j < length (outputs i o p X) → c < ch → DeliveredSample o (p + j * i) X c (sampleIn (outputs i o p X) j c)
-  unfolding outputs
-  outputs-sample p X a j c h k =
-      let l : j < count i p (gaps X * o) = rw length-tabulate at h in
-      rw (getD-tabulate (count i p (gaps X * o)) (λ j. outputAt o X (p + j * i)) j [] l) (output-sample ch i o p X a j l c k)
-
--- ---- from any state
-frames-after : (ch : ℕ) (xs : List Frame) → FramesOf ch xs → FramesAfter ch xs
-frames-after ch [] a = tt
-frames-after ch (x ∷ xs) a = (a .0 .fits, a .1)
-
-pub among-frames : (ch : ℕ) (s : ResamplerState) (xs : List Frame) → Samples (s .last) → FramesOf ch xs → FramesAfter ch (among s xs)
-unfolding among
-among-frames ch s xs h a = go (s .primed)
-  where
-    go : (b : Bool) → FramesAfter ch (cond b (s .last ∷ xs) xs)
-    go true = (h, a)
-    go false = frames-after ch xs a
-
-module _ (ch i o : ℕ) (s : ResamplerState) (xs : List Frame) (h : Samples (s .last)) (a : FramesOf ch xs) where
-  -- of frames the stage makes frames
-  pub output-frames : FramesOf ch (output i o s xs)
-  unfolding output
-  output-frames = outputs-frames ch i o (firstAt s) (among s xs) (among-frames ch s xs h a)
-
-  pub delivered-sample : (j c : ℕ) → j < length (output i o s xs) → c < ch → DeliveredSample o (firstAt s + j * i) (among s xs) c (sampleIn (output i o s xs) j c)
-  unfolding output
-  delivered-sample j c l k = outputs-sample ch i o (firstAt s) (among s xs) (among-frames ch s xs h a) j c l k
-
--- of the whole stream X: output k lies at k * in_r
-pub whole-sample : (ch i o : ℕ) (X : List Frame) → FramesOf ch X → (k c : ℕ) → k < length (delivered i o X) → c < ch → DeliveredSample o (k * i) X c (sampleIn (delivered i o X) k c)
-unfolding among firstAt
-whole-sample ch i o X a k c h l =
-    let e : 0 + k * i ≡ k * i = omega arith in
-    rw (output-is-delivered i o X, e) at (delivered-sample ch i o openedState X (sfits-lit tt, (sfits-lit tt, tt)) a k c (rw (output-is-delivered i o X) h) l)
-
-pub resampled-frames : (ch : ℕ) (r : LinearResampler) (s : ResamplerState) (xs : List Frame) → Samples (s .last) → FramesOf ch xs → FramesOf ch (resampled r s xs)
-unfolding resampled
-resampled-frames ch r s xs h a = go (eqb (r .«in_rate») (r .«out_rate»))
-  where
-    go : (b : Bool) → FramesOf ch (cond b xs (output (r .«in_r») (r .«out_r») s xs))
-    go true = a
-    go false = output-frames ch (r .«in_r») (r .«out_r») s xs h a

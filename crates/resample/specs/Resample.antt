@@ -1,22 +1,23 @@
 -- The resampler (document 01, resample.rs and 'The whole stream'): its closed form over all frames received, and from any state. Definitions only.
-use mathlib.Core.Bool.{Bool, true, false, cond}
+use mathlib.Core.Bool.{true, cond}
 use mathlib.Core.List.{List, [], _∷_}
 use Prim.Native.Nat.{ℕ, suc, _+_, _-_, _*_, _/_, _%_}
 use lib.Dec.{eqb}
 use lib.IntN.{pos}
 use lib.ListN.{length, getD}
 use Rattle.pcm.specs.Frames.{Frame}
-use Rattle.resample.specs.Counting.{tabulate, ceilDiv, count, past}
+use Rattle.rates.specs.Counting.{tabulate, ceilDiv, count, past}
 use Rattle.resample.specs.Value.{value}
-use Rattle.resample.specs.declared.LinearResampler.{LinearResampler}
-use Rattle.resample.specs.declared.ResamplerState.{ResamplerState}
+use Rattle.rates.specs.declared.LinearResampler.{LinearResampler}
+use Rattle.rates.specs.declared.ResamplerState.{ResamplerState}
+use Rattle.rates.specs.Rates.{openedState}
 
--- ---- one output
+-- ---- one carriedOutputs
 -- the frame rem / out_r of the way from the frame a to the frame b: each channel by itself
 unfoldable pub blend : ℕ → Frame → Frame → ℕ → Frame
 blend o a b rem = tabulate (length b) (λ c. value o (getD a c (pos 0)) (getD b c (pos 0)) rem)
 
--- the output at num / out_r of the frames X: between Xg and Xg+1, with g = floor(num / out_r) and rem = num mod out_r
+-- the carriedOutputs at num / out_r of the frames X: between Xg and Xg+1, with g = floor(num / out_r) and rem = num mod out_r
 unfoldable pub outputAt : ℕ → List Frame → ℕ → Frame
 outputAt o X num = blend o (getD X (num / o) []) (getD X (suc (num / o)) []) (num % o)
 
@@ -26,9 +27,9 @@ abbrev pub gaps : List Frame → ℕ
 gaps [] = 0
 gaps (x ∷ xs) = length xs
 
--- each output k with k * in_r < (T - 1) * out_r, in order
-unfoldable pub delivered : ℕ → ℕ → List Frame → List Frame
-delivered i o X = tabulate (ceilDiv (gaps X * o) i) (λ k. outputAt o X (k * i))
+-- each carriedOutputs k with k * in_r < (T - 1) * out_r, in order
+unfoldable pub wholeOutputs : ℕ → ℕ → List Frame → List Frame
+wholeOutputs i o X = tabulate (ceilDiv (gaps X * o) i) (λ k. outputAt o X (k * i))
 
 -- the newest of x and xs
 abbrev pub newest : Frame → List Frame → Frame
@@ -45,51 +46,41 @@ padded (x ∷ y ∷ f) = x ∷ y ∷ f
 abbrev pub holding : Frame → ℕ → ResamplerState
 holding f p = record { last = padded f; phase = p; primed = true }
 
-abbrev pub openedState : ResamplerState
-openedState = record { last = pos 0 ∷ pos 0 ∷ []; phase = 0; primed = false }
-
--- the sound state: the newest frame, and k * in_r - (T - 1) * out_r at the first k not delivered; before the first frame as opened
-unfoldable pub soundState : ℕ → ℕ → List Frame → ResamplerState
-soundState i o [] = openedState
-soundState i o (x ∷ xs) = holding (newest x xs) (length (delivered i o (x ∷ xs)) * i - length xs * o)
+-- the sound state: the newest frame, and k * in_r - (T - 1) * out_r at the first k not wholeOutputs; before the first frame as opened
+unfoldable pub wholeSoundState : ℕ → ℕ → List Frame → ResamplerState
+wholeSoundState i o [] = openedState
+wholeSoundState i o (x ∷ xs) = holding (newest x xs) (length (wholeOutputs i o (x ∷ xs)) * i - length xs * o)
 
 -- ---- from a state, on the frames xs that follow
--- the frames that the outputs lie among: the state's newest, if there is one, and those that follow
+-- the frames that the outputsFrom lie among: the state's newest, if there is one, and those that follow
 unfoldable pub among : ResamplerState → List Frame → List Frame
 among s xs = cond (s .primed) (s .last ∷ xs) xs
 
--- where among them the first output lies, in out_r-ths of a frame
+-- where among them the first carriedOutputs lies, in out_r-ths of a frame
 unfoldable pub firstAt : ResamplerState → ℕ
 firstAt s = cond (s .primed) (s .phase) 0
 
--- from p on in steps of in_r, each output that lies before the newest of X
-unfoldable pub outputs : ℕ → ℕ → ℕ → List Frame → List Frame
-outputs i o p X = tabulate (count i p (gaps X * o)) (λ j. outputAt o X (p + j * i))
+-- from p on in steps of in_r, each carriedOutputs that lies before the newest of X
+unfoldable pub outputsFrom : ℕ → ℕ → ℕ → List Frame → List Frame
+outputsFrom i o p X = tabulate (count i p (gaps X * o)) (λ j. outputAt o X (p + j * i))
 
-unfoldable pub output : ℕ → ℕ → ResamplerState → List Frame → List Frame
-output i o s xs = outputs i o (firstAt s) (among s xs)
+unfoldable pub carriedOutputs : ℕ → ℕ → ResamplerState → List Frame → List Frame
+carriedOutputs i o s xs = outputsFrom i o (firstAt s) (among s xs)
 
-unfoldable pub next : ℕ → ℕ → ResamplerState → List Frame → ResamplerState
-next i o s [] = s
-next i o s (x ∷ xs) = holding (newest x xs) (past i (firstAt s) (gaps (among s (x ∷ xs)) * o))
+unfoldable pub carriedState : ℕ → ℕ → ResamplerState → List Frame → ResamplerState
+carriedState i o s [] = s
+carriedState i o s (x ∷ xs) = holding (newest x xs) (past i (firstAt s) (gaps (among s (x ∷ xs)) * o))
 
 -- ---- the stage: equal rates copy and keep no state
 unfoldable pub resampled : LinearResampler → ResamplerState → List Frame → List Frame
-resampled r s xs = cond (eqb (r .«in_rate») (r .«out_rate»)) xs (output (r .«in_r») (r .«out_r») s xs)
+resampled r s xs = cond (eqb (r .«in_rate») (r .«out_rate»)) xs (carriedOutputs (r .«in_r») (r .«out_r») s xs)
 
 unfoldable pub stateAfter : LinearResampler → ResamplerState → List Frame → ResamplerState
-stateAfter r s xs = cond (eqb (r .«in_rate») (r .«out_rate»)) s (next (r .«in_r») (r .«out_r») s xs)
+stateAfter r s xs = cond (eqb (r .«in_rate») (r .«out_rate»)) s (carriedState (r .«in_r») (r .«out_r») s xs)
 
 -- what the stage makes of the whole stream X, and its sound state then
-unfoldable pub wholeOutput : LinearResampler → List Frame → List Frame
-wholeOutput r X = cond (eqb (r .«in_rate») (r .«out_rate»)) X (delivered (r .«in_r») (r .«out_r») X)
+unfoldable pub resampledWhole : LinearResampler → List Frame → List Frame
+resampledWhole r X = cond (eqb (r .«in_rate») (r .«out_rate»)) X (wholeOutputs (r .«in_r») (r .«out_r») X)
 
-unfoldable pub wholeState : LinearResampler → List Frame → ResamplerState
-wholeState r X = cond (eqb (r .«in_rate») (r .«out_rate»)) openedState (soundState (r .«in_r») (r .«out_r») X)
-
--- how many frames n frames bring, from the phase alone
-unfoldable pub outputCount : ℕ → ℕ → Bool → ℕ → ℕ → ℕ
-outputCount i o primed phase n = cond primed (count i phase (n * o)) (count i 0 ((n - 1) * o))
-
-unfoldable pub frameCount : LinearResampler → Bool → ℕ → ℕ → ℕ
-frameCount r primed phase n = cond (eqb (r .«in_rate») (r .«out_rate»)) n (outputCount (r .«in_r») (r .«out_r») primed phase n)
+unfoldable pub stateWhole : LinearResampler → List Frame → ResamplerState
+stateWhole r X = cond (eqb (r .«in_rate») (r .«out_rate»)) openedState (wholeSoundState (r .«in_r») (r .«out_r») X)

@@ -6,7 +6,6 @@ use block::Answer;
 use block::Half;
 use pcm::PcmFormat;
 use pipeline::Pipeline;
-use recipe::words;
 use std::num::wrapping_add_u64;
 
 // Frames that came out, and a checksum of 32 bits.

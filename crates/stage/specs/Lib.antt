@@ -1,3 +1,3 @@
-pub mod Stages
 pub mod Rooms
-pub mod Serving
+pub mod Stages
+pub mod laws

@@ -4,16 +4,16 @@ ghost use mathlib.Core.Bool.{true, false, _&&_};
 ghost use Prim.Native.Nat.{_*_, _≤_};
 ghost use lib.Dec.{eqb, leb, ltb};
 ghost use Rattle.pcm.specs.Samples.{Samples};
-ghost use Rattle.resample.specs.Opening.{Rates};
-ghost use Rattle.stage.specs.Rooms.{ratesSuit, suits, framesOut, framesWanted, Bounded};
+ghost use Rattle.rates.specs.Rates.{Rates};
+ghost use Rattle.stage.specs.Rooms.{ratesSuit, stageSuits, framesOut, framesWanted, Bounded};
 ghost use Rattle.stage.specs.Stages.{formatAfter, memoryAsOpened, remembers, stageAsOpened, stageClear};
 use biquad::Biquad;
 use dc_block::DcBlock;
+use filters::FilterMemory;
 use gain::Gain;
 use pcm::PcmFormat;
-use pcm::filters::FilterMemory;
-use resample::LinearResampler;
-use resample::ResamplerState;
+use rates::LinearResampler;
+use rates::ResamplerState;
 
 pub enum StageKind {
     Gain(Gain),
@@ -125,7 +125,7 @@ fn parts_suit(input: u64, output: u64, in_r: u64, out_r: u64) -> bool
 
 // What the block call needs of a stage that `format` reaches: settings within their limits, a format that suits, a phase below in_r.
 pub fn stage_suits(format: PcmFormat, stage: Stage) -> bool
-    ensures { λ r. ⌜ r ≡ suits format (stage .kind) (stage .memory) ⌝ }
+    ensures { λ r. ⌜ r ≡ stageSuits format (stage .kind) (stage .memory) ⌝ }
 {
     let kind = stage.kind;
     let memory = stage.memory;

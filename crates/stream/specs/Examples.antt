@@ -7,21 +7,20 @@ use Rattle.pcm.specs.declared.PcmFormat.{PcmFormat}
 use Rattle.pcm.specs.Formats.{rateAllowed, channelsAllowed, formatAllowed}
 use Rattle.pcm.specs.Samples.{sampleOf, lowOf, highOf}
 use Rattle.pcm.specs.Frames.{framesOf, bytesOf, written}
-use Rattle.resample.specs.Divisor.{gcd, largest}
+use Rattle.rates.specs.Divisor.{gcd, largest}
 use Rattle.resample.specs.Value.{interpolated}
-use Rattle.resample.specs.Resample.{blend, outputAt, delivered, among, firstAt, outputs, output, next, resampled, stateAfter, outputCount, frameCount, wholeOutput}
-use Rattle.resample.specs.Opening.{ratesAllowed, reduced, roomFrames}
+use Rattle.resample.specs.Resample.{blend, outputAt, wholeOutputs, among, firstAt, outputsFrom, carriedOutputs, carriedState, resampled, stateAfter, resampledWhole}
+use Rattle.rates.specs.Rates.{carriedCount, resampledCount, ratesAllowed, reduced, roomFrames}
 use Rattle.stage.specs.declared.Stage.{Stage}
 use Rattle.stage.specs.declared.StageKind.{StageKind}
 use Rattle.stage.specs.declared.StageKind.the-variants as kind
 use Rattle.stage.specs.Stages.{stageOut, stageNext, stageAsOpened}
-use Rattle.stage.specs.Rooms.{ratesSuit, suits, framesOut, framesWanted, roomWanted}
+use Rattle.stage.specs.Rooms.{ratesSuit, stageSuits, framesOut, framesWanted, roomWanted}
 use Rattle.pipeline.specs.declared.Pipeline.{Pipeline}
-use Rattle.pipeline.specs.Reset.{resetCall}
-use Rattle.block.specs.Chain.{formatLeaving}
-use Rattle.block.specs.BlockCall.{suited, legal, roomVerdict, verdictOf, passed, accepted, blockCall}
+use Rattle.pipeline.specs.Reset.{resetCall, formatLeaving}
+use Rattle.block.specs.BlockCall.{suited, legal, roomsVerdict, blockVerdict, passed, accepted, blockCall}
 use Rattle.stream.specs.Calls.{Call, block, reset, runOf}
-use Rattle.stream.specs.Opened.{Opened, chainAsOpened, opened-with}
+use Rattle.stream.specs.Opened.{FreshlyOpened, chainAsOpened, opened-with}
 use Rattle.stream.specs.PlainChain.{plainStage}
 use Rattle.stream.specs.PlainRoom.{plainRoom, plainVerdict}
 use Rattle.stream.specs.Stream.{streamOf}
@@ -39,8 +38,8 @@ abbrev doubling : Pipeline
 doubling = chainAsOpened mono8000 kinds spare 0 0
 
 -- a chain that the theorem speaks of
-doubling-opened : Opened doubling
-unfolding rateAllowed channelsAllowed formatAllowed suited suits ratesSuit ratesAllowed reduced gcd largest
+doubling-opened : FreshlyOpened doubling
+unfolding rateAllowed channelsAllowed formatAllowed suited stageSuits ratesSuit ratesAllowed reduced gcd largest
 doubling-opened = opened-with mono8000 kinds spare 0 0 refl refl refl (refl, tt)
 
 abbrev lentHalf : List ℕ
@@ -54,9 +53,9 @@ abbrev calls : List Call
 calls = call (9 ∷ 0 ∷ 9 ∷ 0 ∷ []) ∷ reset ∷ call (0 ∷ 0 ∷ []) ∷ call (1 ∷ []) ∷ call (1 ∷ 0 ∷ 2 ∷ 0 ∷ 3 ∷ 0 ∷ 4 ∷ 0 ∷ 5 ∷ 0 ∷ []) ∷ call (100 ∷ 0 ∷ 50 ∷ 0 ∷ []) ∷ []
 
 stream-f : streamOf doubling calls ≡ map (λ (x : ℕ). pos x ∷ []) (0 ∷ 100 ∷ 50 ∷ [])
-unfolding plainVerdict plainRoom plainStage wholeOutput delivered outputAt blend interpolated reduced gcd largest framesWanted roomWanted roomFrames framesOf sampleOf
+unfolding plainVerdict plainRoom plainStage resampledWhole wholeOutputs outputAt blend interpolated reduced gcd largest framesWanted roomWanted roomFrames framesOf sampleOf
 stream-f = refl
 
 output-f : runOf doubling calls .joined ≡ 0 ∷ 0 ∷ 50 ∷ 0 ∷ 100 ∷ 0 ∷ 75 ∷ 0 ∷ []
-unfolding blockCall verdictOf legal suited suits ratesSuit ratesAllowed rateAllowed channelsAllowed formatAllowed roomVerdict roomWanted framesWanted framesOut frameCount outputCount roomFrames accepted passed written bytesOf framesOf sampleOf lowOf highOf formatLeaving stageOut stageNext resampled stateAfter output outputs next among firstAt outputAt blend interpolated reduced gcd largest resetCall
+unfolding blockCall blockVerdict legal suited stageSuits ratesSuit ratesAllowed rateAllowed channelsAllowed formatAllowed roomsVerdict roomWanted framesWanted framesOut resampledCount carriedCount roomFrames accepted passed written bytesOf framesOf sampleOf lowOf highOf formatLeaving stageOut stageNext resampled stateAfter carriedOutputs outputsFrom carriedState among firstAt outputAt blend interpolated reduced gcd largest resetCall
 output-f = refl

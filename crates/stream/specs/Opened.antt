@@ -10,13 +10,14 @@ use lib.Seq.{take-at}
 use Rattle.pcm.specs.declared.PcmFormat.{PcmFormat}
 use Rattle.pcm.specs.Formats.{formatAllowed}
 use Rattle.pcm.specs.Samples.{All}
-use Rattle.resample.specs.Opening.{reduced}
+use Rattle.rates.specs.Rates.{reduced}
 use Rattle.stage.specs.declared.Stage.{Stage}
 use Rattle.stage.specs.declared.StageKind.{StageKind}
 use Rattle.stage.specs.declared.StageKind.the-variants as kind
 use Rattle.stage.specs.Stages.{kindsOf, stageAsOpened, stageClear}
 use Rattle.pipeline.specs.declared.Pipeline.{Pipeline}
-use Rattle.block.specs.BlockCall.{stagesOf, suited, legal}
+use Rattle.pipeline.specs.WritingBack.{stagesOf}
+use Rattle.block.specs.BlockCall.{suited, legal}
 
 -- a resampler's rates are divided by their greatest common divisor
 abbrev pub RatesReduced : StageKind → Type 0
@@ -32,7 +33,7 @@ abbrev pub kindsIn : Pipeline → List StageKind
 kindsIn c = kindsOf (stagesOf c)
 
 -- one array of eight places, a format and stages that suit one another, and no sound in any stage yet
-pub record Opened (o : Pipeline) : Type 0 where
+pub record FreshlyOpened (o : Pipeline) : Type 0 where
   pub places : length (o .stages) ≡ 8
   pub lawful : legal o ≡ true
   pub silent : stagesOf o ≡ map stageClear (stagesOf o)
@@ -54,7 +55,7 @@ module _ (f : PcmFormat) (ks : List StageKind) (spare : List Stage) (blocks empt
   stages-as-opened : stagesOf chainAsOpened ≡ map stageAsOpened ks
   stages-as-opened = take-at (map stageAsOpened ks) spare (length ks) (length-map ks stageAsOpened)
 
-  pub opened-with : length ks + length spare ≡ 8 → formatAllowed f ≡ true → suited f (map stageAsOpened ks) ≡ true → All RatesReduced ks → Opened chainAsOpened
+  pub opened-with : length ks + length spare ≡ 8 → formatAllowed f ≡ true → suited f (map stageAsOpened ks) ≡ true → All RatesReduced ks → FreshlyOpened chainAsOpened
   unfolding legal
   opened-with eight allowed suit rates = record {
     places = length-append (map stageAsOpened ks) spare ∙ ap (λ (n : ℕ). n + length spare) (length-map ks stageAsOpened) ∙ eight;

@@ -1,28 +1,22 @@
 -- Demand 3 (document 01, 'The whole stream'): a single claim about every list of calls on a freshly opened chain. Assumes nothing.
-use mathlib.Core.Path.{_≡_, sym, subst}
-use mathlib.Core.List.{List, [], _∷_}
+use mathlib.Core.Path.{_≡_}
+use mathlib.Core.List.{List, _∷_}
 use Prim.Native.Nat.{ℕ}
 use lib.ListN.{length, take, drop}
 use Rattle.pcm.specs.declared.PcmFormat.{PcmFormat}
-use Rattle.pcm.specs.declared.Verdict.the-variants.{Accepted}
-use Rattle.pcm.specs.Samples.{All}
 use Rattle.pcm.specs.Frames.{Frame, FramesOf, bytesOf}
-use Rattle.resample.specs.declared.LinearResampler.{LinearResampler}
-use Rattle.stage.specs.declared.Stage.{Stage}
+use Rattle.rates.specs.declared.LinearResampler.{LinearResampler}
 use Rattle.stage.specs.declared.StageKind.{StageKind}
 use Rattle.stage.specs.declared.StageKind.the-variants as kind
 use Rattle.pipeline.specs.declared.Pipeline.{Pipeline}
-use Rattle.pipeline.specs.Opening.{openCall}
-use Rattle.block.specs.Chain.{formatLeaving}
-use Rattle.block.specs.BlockCall.{stagesOf, verdictOf, shorter}
-use Rattle.stream.specs.Calls.{Call, Lent, Run, runOf}
-use Rattle.stream.specs.Opened.{kindsIn, Opened}
-use Rattle.stream.specs.Opening.{opened-chain}
+use Rattle.pipeline.specs.Reset.{formatLeaving}
+use Rattle.pipeline.specs.WritingBack.{stagesOf}
+use Rattle.block.specs.BlockCall.{blockVerdict, shorter}
+use Rattle.stream.specs.Calls.{Run}
+use Rattle.stream.specs.Opened.{kindsIn}
 use Rattle.stream.specs.PlainChain.{plainOut, plainState, receivedBy, deliveredBy}
 use Rattle.stream.specs.PlainRoom.{plainVerdict}
-use Rattle.stream.specs.Stream.{streamOf}
-use Rattle.stream.specs.Resamplers.{Resampled, received-frames, resampler-in-chain}
-use Rattle.stream.specs.AfterCalls.{Between, as-opened, suit, state-plain, output-plain, verdict-plain, begun, after-calls}
+use Rattle.stream.specs.Resamplers.{Resampled}
 
 -- o is the chain that opening returned, with stages of the kinds `kindsIn o`.
 -- X is the stream, the frames of accepted blocks since opening or the last reset; r holds the chain as the calls left it and their
@@ -46,24 +40,4 @@ pub record WholeStream (o : Pipeline) (X : List Frame) (r : Run) : Type 0 where
   pub resamplers : (i : ℕ) (s : LinearResampler) (later : List StageKind) → drop i (kindsIn o) ≡ kind.Resample s ∷ later → (s .«in_rate» ≡ s .«out_rate» → ⊥)
       → Resampled s (receivedBy i (kindsIn o) X) (deliveredBy i (kindsIn o) X)
   pub questions : (format : PcmFormat) (bytes a b : List ℕ)
-      → verdictOf (r .chain) format (length bytes) (shorter a b) ≡ plainVerdict (o .format) (kindsIn o) X format bytes (shorter a b)
-
-pub whole-stream-of : (o : Pipeline) → Opened o → (calls : List Call) → All Lent calls → WholeStream o (streamOf o calls) (runOf o calls)
-whole-stream-of o opened calls lent =
-    let v : Between o opened (streamOf o calls) (runOf o calls) = after-calls o opened [] (record { chain = o; joined = [] }) calls (begun o opened) lent in
-    record {
-      output = output-plain o opened v;
-      state = state-plain o opened v;
-      count = v .moved .count;
-      format = v .moved .format;
-      spare = v .moved .spare;
-      frames = λ i. subst (λ (l : List Stage). FramesOf (formatLeaving (o .format) (take i l) .channels) (receivedBy i (kindsIn o) (streamOf o calls))) (sym (as-opened o opened))
-          (received-frames (o .format) (kindsIn o) (streamOf o calls) (suit o opened) (v .frames) i);
-      resamplers = resampler-in-chain (o .format) (kindsIn o) (streamOf o calls) (suit o opened) (opened .rates) (v .frames);
-      questions = verdict-plain o opened v;
-    }
-
--- whatever the format and the recipe that opening accepts, the block and reset calls, and the blocks and halves that they bring
-pub whole-stream : (f : PcmFormat) (recipe : List ℕ) → openCall f recipe .verdict ≡ Accepted → (calls : List Call) → All Lent calls
-    → WholeStream (openCall f recipe .chain) (streamOf (openCall f recipe .chain) calls) (runOf (openCall f recipe .chain) calls)
-whole-stream f recipe h calls lent = whole-stream-of (openCall f recipe .chain) (opened-chain f recipe h) calls lent
+      → blockVerdict (r .chain) format (length bytes) (shorter a b) ≡ plainVerdict (o .format) (kindsIn o) X format bytes (shorter a b)

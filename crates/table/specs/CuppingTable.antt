@@ -3,20 +3,19 @@ use mathlib.Core.Path.{_≡_, refl}
 use mathlib.Core.Bool.{true, false}
 use mathlib.Core.List.{List, [], _∷_, map}
 use Prim.Native.Nat.{ℕ}
-use lib.IntN.{ℤ, pos, negsuc}
-use lib.Ieee.{Float, fin, binary32, ofInt, div, add, sub, mul, round}
-use Rattle.pcm.specs.Integers.{floorDiv}
+use lib.IntN.{pos, negsuc}
+use lib.Ieee.{fin, binary32, ofInt, div, add, sub, mul, round}
 use Rattle.pcm.specs.Samples.{held}
-use Rattle.pcm.specs.Rounding.{roundSat, halfUp}
+use Rattle.floats.specs.Rounding.{roundSat, halfUp}
 use Rattle.pcm.specs.Frames.{Frame}
-use Rattle.pcm.specs.Filters.{_⊘_, atRest, filtered}
+use Rattle.filters.specs.Filters.{_⊘_, atRest, filtered}
 use Rattle.gain.specs.Gain.{heldFactor, scaled}
 use Rattle.channels.specs.Channels.{mixdown, mean, mixed}
 use Rattle.dc_block.specs.DcBlock.{dcTick}
-use Rattle.resample.specs.Divisor.{gcd, largest}
+use Rattle.rates.specs.Divisor.{gcd, largest}
 use Rattle.resample.specs.Value.{interpolated}
-use Rattle.resample.specs.Resample.{blend, outputAt, delivered, openedState, among, firstAt, outputs, output, resampled, wholeOutput}
-use Rattle.resample.specs.Opening.{reduced}
+use Rattle.resample.specs.Resample.{blend, outputAt, wholeOutputs, among, firstAt, outputsFrom, carriedOutputs, resampled, resampledWhole}
+use Rattle.rates.specs.Rates.{openedState, reduced}
 use Rattle.pcm.specs.declared.PcmFormat.{PcmFormat}
 use Rattle.pcm.specs.declared.Error.the-variants.{UnknownStage}
 use Rattle.pcm.specs.declared.Verdict.the-variants.{Accepted}
@@ -25,7 +24,8 @@ use Rattle.pcm.specs.Refusals.{numberOf}
 use Rattle.stage.specs.declared.StageKind.the-variants as kind
 use Rattle.stage.specs.Stages.{stageAsOpened}
 use Rattle.recipe.specs.Records.{recordVerdict, recordOf, recordBytes}
-use Rattle.pipeline.specs.Opening.{opened, refused, stageVerdict, openStages, chainOf, openCall}
+use Rattle.pipeline.specs.Opening.{opened, refused, openStages, chainOf, openCall}
+use Rattle.opening.specs.Opening.{stageVerdict}
 
 -- frames of one channel
 abbrev mono : List ℕ → List Frame
@@ -57,23 +57,23 @@ unfolding mixed held
 e = refl
 
 -- (f) 8,000 to 16,000 Hz, frames 0, 100, 50: 0, 50, 100, 75
-f : wholeOutput (reduced 8000 16000) (mono (0 ∷ 100 ∷ 50 ∷ [])) ≡ mono (0 ∷ 50 ∷ 100 ∷ 75 ∷ [])
-unfolding wholeOutput delivered outputAt blend interpolated reduced gcd largest
+f : resampledWhole (reduced 8000 16000) (mono (0 ∷ 100 ∷ 50 ∷ [])) ≡ mono (0 ∷ 50 ∷ 100 ∷ 75 ∷ [])
+unfolding resampledWhole wholeOutputs outputAt blend interpolated reduced gcd largest
 f = refl
 
 -- cut after frame 0 the first call is 'nothing yet'
 f-cut : resampled (reduced 8000 16000) openedState (mono (0 ∷ [])) ≡ []
-unfolding resampled output outputs among firstAt outputAt reduced gcd largest
+unfolding resampled carriedOutputs outputsFrom among firstAt outputAt reduced gcd largest
 f-cut = refl
 
 -- (g) 16,000 to 8,000 Hz, frames 10, 20, 30, 40: 10, 30
-g : wholeOutput (reduced 16000 8000) (mono (10 ∷ 20 ∷ 30 ∷ 40 ∷ [])) ≡ mono (10 ∷ 30 ∷ [])
-unfolding wholeOutput delivered outputAt blend interpolated reduced gcd largest
+g : resampledWhole (reduced 16000 8000) (mono (10 ∷ 20 ∷ 30 ∷ 40 ∷ [])) ≡ mono (10 ∷ 30 ∷ [])
+unfolding resampledWhole wholeOutputs outputAt blend interpolated reduced gcd largest
 g = refl
 
 -- (h) 1 to 3 Hz, frames 0, 3: 0, 1, 2
-h : wholeOutput (reduced 1 3) (mono (0 ∷ 3 ∷ [])) ≡ mono (0 ∷ 1 ∷ 2 ∷ [])
-unfolding wholeOutput delivered outputAt blend interpolated reduced gcd largest
+h : resampledWhole (reduced 1 3) (mono (0 ∷ 3 ∷ [])) ≡ mono (0 ∷ 1 ∷ 2 ∷ [])
+unfolding resampledWhole wholeOutputs outputAt blend interpolated reduced gcd largest
 h = refl
 
 -- (i) DC block with r one half, mono, samples 100, 100, 0: 100, 50, -75

@@ -1,1 +1,3 @@
 pub mod OnWords
+pub mod Theorems
+pub mod laws

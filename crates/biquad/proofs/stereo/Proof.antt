@@ -5,8 +5,8 @@ use mathlib.Core.List.{[], _∷_}
 use Prim.Native.Nat.{_-_}
 use native.Mathlib.Omega.{arith}
 use mir.Syntax.{w16}
-use Rattle.pcm.specs.Integers.{answered}
-use Rattle.pcm.specs.Filters.{TwoChannels, Filtering, filtering-start, filtering-stereo, filtering-end}
+use Rattle.pcm.specs.laws.Integers.{answered}
+use Rattle.filters.specs.laws.Filters.{TwoChannels, Filtering, filtering-start, filtering-stereo, filtering-end}
 use Rattle.biquad.specs.Recurrence.{biquadTick}
 use Rattle.biquad.proofs.Ticks.{ticked}
 use Rattle.biquad.proofs.stereo.Statement.{statement}

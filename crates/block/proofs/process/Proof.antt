@@ -9,19 +9,23 @@ use Prim.Native.Nat.{ℕ, _+_, _-_, _<_}
 use native.Mathlib.Omega.{arith}
 use lib.Dec.{eqb}
 use lib.ListN.{length}
-use Rattle.pcm.specs.Samples.{Bytes, all-by-index}
+use Rattle.pcm.specs.Samples.{Bytes}
+use Rattle.pcm.specs.laws.Samples.{all-by-index}
 use Rattle.pcm.specs.declared.Verdict.{Verdict}
 use Rattle.pcm.specs.declared.Verdict.the-variants.{Accepted}
 use Rattle.pcm.specs.declared.PcmFormat.{PcmFormat}
 use Rattle.pipeline.specs.declared.Pipeline.{Pipeline}
-use Rattle.block.specs.declared.questions.Question.the-variants.{Block}
-use Rattle.block.specs.declared.questions.Walk.{Walk}
-use Rattle.block.specs.BlockCall.{shorter, stagesOf, verdictOf}
-use Rattle.block.specs.Steps.{accepts}
-use Rattle.block.specs.Turns.{halves, Accepts, nextStage}
-use Rattle.block.specs.Walk.{headLegal, begun, walked, verdictFrom}
-use Rattle.block.specs.Walking.{verdict-is}
-use Rattle.block.proofs.Lengths.{unmapped}
+use Rattle.questions.specs.declared.Question.the-variants.{Block}
+use Rattle.questions.specs.declared.Walk.{Walk}
+use Rattle.block.specs.BlockCall.{shorter, blockVerdict}
+use Rattle.pipeline.specs.WritingBack.{stagesOf}
+use Rattle.block.specs.laws.Steps.{accepts}
+use Rattle.turns.specs.Turns.{halves}
+use Rattle.block.specs.Turns.{Accepts, nextStage}
+use Rattle.questions.specs.Walk.{headLegal, begun, verdictFrom}
+use Rattle.questions.specs.laws.Walk.{walked}
+use Rattle.block.proofs.Walking.{verdict-is}
+use Rattle.pcm.specs.laws.Lists.{unmapped}
 use Rattle.block.proofs.Counts.{no-stages, some-stages, not-none}
 use Rattle.block.proofs.Asking.{Asks, head-parts, asks-first, asks-fits, asks-next, asks-end}
 use Rattle.block.proofs.Reaching.{shorter-a}
@@ -52,9 +56,9 @@ next-less i count len n h e = rw e (go (eqb len 0))
 -- the verdict of the whole walk is the definition's
 found : (c : Pipeline) (format : PcmFormat) (block a b : List ℕ) (short : ℕ) (start w : Walk) (v : Verdict) → headLegal (c .format) (c .count) ≡ true → length (c .stages) ≡ 8
     → short ≡ shorter a b → start ≡ begun (c .format) (c .count) (length block) short → w ≡ walked Block short start (stagesOf c) → v ≡ verdictFrom (c .format) format (length block) w
-    → verdictOf c format (length block) (shorter a b) ≡ v
+    → blockVerdict c format (length block) (shorter a b) ≡ v
 found c format block a b short start w v h len s e m k =
-    ap (verdictOf c format (length block)) (sym s)
+    ap (blockVerdict c format (length block)) (sym s)
     ∙ sym (k ∙ ap (verdictFrom (c .format) format (length block)) (m ∙ ap (λ (x : Walk). walked Block short x (stagesOf c)) e)
     ∙ verdict-is c format (length block) short h (no-stages c) (λ z. not-none (stagesOf c) (some-stages c (head-parts (c .format) (c .count) h .few) z len)))
 
@@ -74,7 +78,7 @@ module _ (c : tie.After-begun Inv-loop μ-loop Inv-loop2 μ-loop2) where
 
 -- ---- where they are answered
 asked-all : (v : tie.After-verdict Inv-loop μ-loop Inv-loop2 μ-loop2) → let b = v .before .before .before in let a = s b .args in
-    verdictOf (a .t1) (a .format) (length (a .block .now)) (shorter (a .a .now) (a .b .now)) ≡ v .verdict .result
+    blockVerdict (a .t1) (a .format) (length (a .block .now)) (shorter (a .a .now) (a .b .now)) ≡ v .verdict .result
 asked-all v =
     let l = v .before .before in
     let b = l .before in
@@ -87,7 +91,7 @@ module _ (e : tie.After-enum-told Inv-loop μ-loop Inv-loop2 μ-loop2) where
   abbrev b : tie.After-begun Inv-loop μ-loop Inv-loop2 μ-loop2
   b = e .before .before .before .before .before
 
-  accepted : verdictOf (s b .args .t1) (s b .args .format) (length (s b .args .block .now)) (shorter (s b .args .a .now) (s b .args .b .now)) ≡ Accepted
+  accepted : blockVerdict (s b .args .t1) (s b .args .format) (length (s b .args .block .now)) (shorter (s b .args .a .now) (s b .args .b .now)) ≡ Accepted
   accepted = asked-all (e .before .before) ∙ e .enum-told .given .1
 
   takes : Accepts (s b .args .t1) (s b .args .block .now) (s b .args .a .now) (s b .args .b .now)

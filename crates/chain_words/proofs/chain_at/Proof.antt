@@ -8,7 +8,7 @@ use Rattle.pcm.specs.Samples.{All}
 use Rattle.stage.specs.declared.Stage.{Stage}
 use Rattle.chain_words.specs.Layout.{word, chainAt}
 use Rattle.chain_words.specs.Storable.{Small}
-use Rattle.chain_words.specs.Chains.{small-stages}
+use Rattle.chain_words.proofs.Chains.{small-stages}
 use Rattle.chain_words.proofs.chain_at.Statement.{statement}
 use Rattle.chain_words.proofs.chain_at.Tie as tie
 

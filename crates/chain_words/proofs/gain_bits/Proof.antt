@@ -3,7 +3,7 @@ use borrow.Author.Needs.{needs}
 use mathlib.Core.Path.{ap, _∙_}
 use mir.Syntax.{w32}
 use mir.Val.{ofZ}
-use Rattle.pcm.specs.Integers.{read-back}
+use Rattle.pcm.specs.laws.Integers.{read-back}
 use Rattle.chain_words.proofs.gain_bits.Statement.{statement}
 use Rattle.chain_words.proofs.gain_bits.Tie as tie
 

@@ -3,9 +3,9 @@ use borrow.Author.Needs.{needs}
 use mathlib.Core.Path.{sym}
 use native.Mathlib.Omega.{arith}
 use mir.Syntax.{w32}
-use Rattle.pcm.specs.Integers.{answered}
+use Rattle.pcm.specs.laws.Integers.{answered}
 use Rattle.chain_words.specs.Layout.{kindOf}
-use Rattle.chain_words.specs.Chains.{other-kind}
+use Rattle.chain_words.proofs.Chains.{other-kind}
 use Rattle.chain_words.proofs.kind_of.Statement.{statement}
 use Rattle.chain_words.proofs.kind_of.Tie as tie
 

@@ -6,7 +6,7 @@ use mathlib.Core.Bool.{true, false}
 use Prim.Native.Nat.{_-_, _≤_}
 use native.Mathlib.Omega.{arith}
 use Rattle.chain_words.specs.Layout.{kindsKnown}
-use Rattle.chain_words.specs.Chains.{kinds-next, kinds-end}
+use Rattle.chain_words.proofs.Chains.{kinds-next, kinds-end}
 use Rattle.chain_words.proofs.kinds_known.Statement.{statement}
 use Rattle.chain_words.proofs.kinds_known.Tie as tie
 

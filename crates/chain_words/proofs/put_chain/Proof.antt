@@ -11,9 +11,12 @@ use Rattle.pcm.specs.Frames.{written}
 use Rattle.stage.specs.declared.Stage.{Stage}
 use Rattle.chain_words.specs.Layout.{stageWords, headWords, stagesWords, wordsOf}
 use Rattle.chain_words.specs.Storable.{Held}
-use Rattle.chain_words.specs.Places.{sets-append}
-use Rattle.chain_words.specs.Chains.{length-head, length-stages, stages-next, no-stages}
-use Rattle.chain_words.proofs.Parts.{noStage, unmapped, all-next, whole-run}
+use Rattle.chain_words.specs.laws.Places.{sets-append}
+use Rattle.chain_words.specs.laws.Chains.{length-head, length-stages}
+use Rattle.chain_words.proofs.Chains.{stages-next, no-stages}
+use Rattle.stage.specs.laws.Places.{noStage}
+use Rattle.pcm.specs.laws.Lists.{unmapped}
+use Rattle.chain_words.proofs.Parts.{all-next, whole-run}
 use Rattle.chain_words.proofs.put_chain.Statement.{statement}
 use Rattle.chain_words.proofs.put_chain.Tie as tie
 

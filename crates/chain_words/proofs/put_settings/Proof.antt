@@ -4,7 +4,7 @@ use mathlib.Core.Path.{ap, _∙_}
 use native.Mathlib.Omega.{arith}
 use lib.ListN.{length, length-set}
 use lib.Seq.{sets}
-use Rattle.chain_words.specs.Places.{length-settings}
+use Rattle.chain_words.specs.laws.Places.{length-settings}
 use Rattle.chain_words.proofs.Parts.{seven}
 use Rattle.chain_words.proofs.put_settings.Statement.{statement}
 use Rattle.chain_words.proofs.put_settings.Tie as tie

@@ -6,7 +6,7 @@ use native.Mathlib.Omega.{arith}
 use lib.ListN.{length}
 use lib.Seq.{sets}
 use Rattle.chain_words.specs.Layout.{settingWords, memoryWords, stageWords}
-use Rattle.chain_words.specs.Places.{length-settings, sets-append}
+use Rattle.chain_words.specs.laws.Places.{length-settings, sets-append}
 use Rattle.chain_words.proofs.put_stage.Statement.{statement}
 use Rattle.chain_words.proofs.put_stage.Tie as tie
 

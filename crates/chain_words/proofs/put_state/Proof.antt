@@ -8,7 +8,7 @@ use lib.ListN.{length, getD, length-set}
 use mir.Syntax.{w16}
 use mir.Val.{SFits, ofZ}
 use mir.Facts.{fits-ofZ}
-use Rattle.pcm.specs.Integers.{read-back}
+use Rattle.pcm.specs.laws.Integers.{read-back}
 use Rattle.chain_words.specs.Layout.{stateWords}
 use Rattle.chain_words.proofs.put_state.Statement.{statement}
 use Rattle.chain_words.proofs.put_state.Tie as tie

@@ -5,7 +5,7 @@ use Prim.Native.Nat.{ℕ, _%_}
 use mir.Syntax.{w16, w32}
 use mir.Val.{toZ, ofZ}
 use mir.Facts.{sfits-widen}
-use Rattle.pcm.specs.Integers.{settled, read-back}
+use Rattle.pcm.specs.laws.Integers.{settled, read-back}
 use Rattle.chain_words.proofs.Parts.{low-half}
 use Rattle.chain_words.proofs.sample_bits.Statement.{statement}
 use Rattle.chain_words.proofs.sample_bits.Tie as tie

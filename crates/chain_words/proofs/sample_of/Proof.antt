@@ -4,7 +4,7 @@ use mathlib.Core.Path.{subst, sym}
 use mir.Syntax.{w16}
 use mir.Val.{SFits}
 use mir.Facts.{sfits-toZ}
-use Rattle.pcm.specs.Integers.{settled}
+use Rattle.pcm.specs.laws.Integers.{settled}
 use Rattle.chain_words.proofs.Parts.{upper-half}
 use Rattle.chain_words.proofs.sample_of.Statement.{statement}
 use Rattle.chain_words.proofs.sample_of.Tie as tie

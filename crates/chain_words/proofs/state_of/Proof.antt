@@ -2,7 +2,7 @@
 use borrow.Author.Needs.{needs}
 use native.Mathlib.Omega.{arith}
 use mir.Syntax.{w16}
-use Rattle.pcm.specs.Integers.{answered}
+use Rattle.pcm.specs.laws.Integers.{answered}
 use Rattle.chain_words.specs.Layout.{stateOf}
 use Rattle.chain_words.proofs.state_of.Statement.{statement}
 use Rattle.chain_words.proofs.state_of.Tie as tie

@@ -5,11 +5,12 @@ use Prim.Native.Nat.{_+_, _-_, _%_, _≤_}
 use native.Mathlib.Omega.{arith}
 use lib.ListN.{drop, getD}
 use mir.Syntax.{w16}
-use Rattle.pcm.specs.Integers.{answered}
+use Rattle.pcm.specs.laws.Integers.{answered}
 use Rattle.pcm.specs.Samples.{sampleAt}
 use Rattle.pcm.specs.Frames.{written}
-use Rattle.pcm.specs.Writing.{Writing, writing-start, writing-as, writing-put, writing-end, next-pair}
-use Rattle.channels.specs.Channels.{mixedBytes, mixed, length-mixed}
+use Rattle.pcm.specs.laws.Writing.{Writing, writing-start, writing-as, writing-put, writing-end, next-pair}
+use Rattle.channels.specs.Channels.{mixedBytes, mixed}
+use Rattle.channels.proofs.Channels.{length-mixed}
 use Rattle.channels.proofs.mix_block.Statement.{statement}
 use Rattle.channels.proofs.mix_block.Tie as tie
 

@@ -1,7 +1,7 @@
 -- `channels::mix_i16` meets its contract: each return by the questions that led to it. Assumes nothing.
 use borrow.Author.Needs.{needs}
 use mathlib.Core.Path.{refl, sym}
-use Rattle.channels.specs.Channels.{mix-unequal, mix-odd, mix-short, mix-accepted}
+use Rattle.channels.specs.Theorems.{mix-unequal, mix-odd, mix-short, mix-accepted}
 use Rattle.channels.proofs.mix_i16.Statement.{statement}
 use Rattle.channels.proofs.mix_i16.Tie as tie
 

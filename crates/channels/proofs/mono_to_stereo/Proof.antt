@@ -4,11 +4,12 @@ use Prim.Native.Nat.{_+_, _*_, _-_, _%_, _≤_}
 use native.Mathlib.Omega.{arith}
 use lib.ListN.{length, drop}
 use mir.Syntax.{w16}
-use Rattle.pcm.specs.Integers.{answered}
+use Rattle.pcm.specs.laws.Integers.{answered}
 use Rattle.pcm.specs.Samples.{sampleAt}
 use Rattle.pcm.specs.Frames.{written}
-use Rattle.pcm.specs.Writing.{Writing, writing-start, writing-as, writing-put, writing-end, next-pair}
-use Rattle.channels.specs.Channels.{stereoBytes, stereo-next, stereo-nil, length-stereo}
+use Rattle.pcm.specs.laws.Writing.{Writing, writing-start, writing-as, writing-put, writing-end, next-pair}
+use Rattle.channels.specs.Channels.{stereoBytes}
+use Rattle.channels.specs.laws.Channels.{stereo-next, stereo-nil, length-stereo}
 use Rattle.channels.proofs.mono_to_stereo.Statement.{statement}
 use Rattle.channels.proofs.mono_to_stereo.Tie as tie
 

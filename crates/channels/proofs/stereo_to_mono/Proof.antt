@@ -4,11 +4,12 @@ use Prim.Native.Nat.{_+_, _*_, _/_, _-_, _%_, _≤_}
 use native.Mathlib.Omega.{arith}
 use lib.ListN.{drop}
 use mir.Syntax.{w16}
-use Rattle.pcm.specs.Integers.{answered}
+use Rattle.pcm.specs.laws.Integers.{answered}
 use Rattle.pcm.specs.Samples.{sampleAt}
 use Rattle.pcm.specs.Frames.{written}
-use Rattle.pcm.specs.Writing.{Writing, writing-start, writing-as, writing-put, writing-end, next-four}
-use Rattle.channels.specs.Channels.{monoBytes, mean, mono-next, mono-nil, length-mono}
+use Rattle.pcm.specs.laws.Writing.{Writing, writing-start, writing-as, writing-put, writing-end, next-four}
+use Rattle.channels.specs.Channels.{monoBytes, mean}
+use Rattle.channels.specs.laws.Channels.{mono-next, mono-nil, length-mono}
 use Rattle.channels.proofs.stereo_to_mono.Statement.{statement}
 use Rattle.channels.proofs.stereo_to_mono.Tie as tie
 

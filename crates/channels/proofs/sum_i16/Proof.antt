@@ -2,7 +2,7 @@
 use borrow.Author.Needs.{needs}
 use mir.Syntax.{w16}
 use mir.Facts.{toZ-ofZ}
-use Rattle.pcm.specs.Integers.{answered}
+use Rattle.pcm.specs.laws.Integers.{answered}
 use Rattle.channels.specs.Channels.{mixed}
 use Rattle.channels.proofs.Sums.{Summed, summed}
 use Rattle.channels.proofs.sum_i16.Statement.{statement}

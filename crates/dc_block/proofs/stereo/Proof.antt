@@ -7,8 +7,8 @@ use native.Mathlib.Omega.{arith}
 use lib.ListN.{getD}
 use lib.Ieee.{nan}
 use mir.Syntax.{w16}
-use Rattle.pcm.specs.Integers.{answered}
-use Rattle.pcm.specs.Filters.{TwoChannels, two-of, tapsAt, Filtering, filtering-start, filtering-stereo, filtering-end}
+use Rattle.pcm.specs.laws.Integers.{answered}
+use Rattle.filters.specs.laws.Filters.{TwoChannels, two-of, tapsAt, Filtering, filtering-start, filtering-stereo, filtering-end}
 use Rattle.dc_block.specs.DcBlock.{dcTick}
 use Rattle.dc_block.proofs.Ticks.{ticked}
 use Rattle.dc_block.proofs.stereo.Statement.{statement}

@@ -3,8 +3,8 @@ use mathlib.Core.Path.{_≡_, ap, _∙_, sym, subst}
 use lib.IntN.{pos, negsuc}
 use mir.Syntax.{w16, w64}
 use mir.Val.{SFits}
-use Rattle.pcm.specs.Integers.{settled}
-use Rattle.pcm.specs.Samples.{tested-low, tested-high, tested-inside, held-fits}
+use Rattle.pcm.specs.laws.Integers.{settled}
+use Rattle.pcm.specs.laws.Samples.{tested-low, tested-high, tested-inside, held-fits}
 use Rattle.gain.proofs.sat16_wide.Statement.{statement}
 use Rattle.gain.proofs.sat16_wide.Tie as tie
 

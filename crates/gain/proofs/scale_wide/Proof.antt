@@ -4,7 +4,7 @@ use mathlib.Core.Path.{_≡_, sym, ap, _∙_}
 use mir.Syntax.{w16, w32}
 use mir.Val.{SFits}
 use mir.Facts.{toZ-ofZ, sfits-widen}
-use Rattle.pcm.specs.Integers.{answered}
+use Rattle.pcm.specs.laws.Integers.{answered}
 use Rattle.pcm.specs.Samples.{held16}
 use Rattle.gain.specs.Gain.{scaled}
 use Rattle.gain.proofs.Products.{Parts, parts, in-parts}

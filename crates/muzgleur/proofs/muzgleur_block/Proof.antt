@@ -7,9 +7,9 @@ use Rattle.pipeline.specs.declared.Pipeline.{Pipeline}
 use Rattle.block.specs.BlockCall.{Result, blockCall}
 use Rattle.chain_words.specs.Layout.{chainOfWords}
 use Rattle.chain_words.specs.Storable.{Small}
-use Rattle.chain_words.specs.Chains.{too-few}
+use Rattle.chain_words.specs.laws.Chains.{too-few}
 use Rattle.muzgleur.specs.Results.{wordsAfter, FewAfter, HeldAfter}
-use Rattle.muzgleur.specs.Stands.{no-chain-block, block-stands, few-after}
+use Rattle.muzgleur.proofs.Stands.{no-chain-block, block-stands, few-after}
 use Rattle.muzgleur.proofs.muzgleur_block.Statement.{statement}
 use Rattle.muzgleur.proofs.muzgleur_block.Tie as tie
 

@@ -11,7 +11,7 @@ use Rattle.pcm.specs.declared.Verdict.the-variants.{Accepted}
 use Rattle.pipeline.specs.declared.Opened.{Opened}
 use Rattle.chain_words.specs.Layout.{wordsOf, chainOfWords}
 use Rattle.chain_words.specs.Storable.{Held}
-use Rattle.muzgleur.specs.Opened.{open-stands, number-some}
+use Rattle.muzgleur.proofs.Opened.{open-stands, number-some}
 use Rattle.muzgleur.proofs.muzgleur_open.Statement.{statement}
 use Rattle.muzgleur.proofs.muzgleur_open.Tie as tie
 

@@ -9,9 +9,9 @@ use Rattle.pipeline.specs.Reset.{resetCall}
 use Rattle.pipeline.specs.WritingBack.{stagesOf}
 use Rattle.chain_words.specs.Layout.{stands, chainOfWords}
 use Rattle.chain_words.specs.Storable.{HeldMemory, Small}
-use Rattle.chain_words.specs.Chains.{stands-long}
+use Rattle.chain_words.specs.laws.Chains.{stands-long}
 use Rattle.muzgleur.specs.Results.{soundWords}
-use Rattle.muzgleur.specs.Stands.{no-words, no-chain-reset, reset-few, reset-stands}
+use Rattle.muzgleur.proofs.Stands.{no-words, no-chain-reset, reset-few, reset-stands}
 use Rattle.muzgleur.proofs.muzgleur_reset.Statement.{statement}
 use Rattle.muzgleur.proofs.muzgleur_reset.Tie as tie
 

@@ -5,7 +5,8 @@ use Prim.Native.Nat.{ℕ, _-_, _≤_}
 use native.Mathlib.Omega.{arith}
 use lib.ListN.{drop}
 use Rattle.pcm.specs.Frames.{written}
-use Rattle.pcm.specs.Writing.{Writing, writing-start, writing-byte, writing-as, writing-end, next-byte}
+use Rattle.pcm.specs.laws.Writing.{Writing, writing-start, writing-byte, writing-as, writing-end}
+use Rattle.pcm.proofs.Writing.{next-byte}
 use Rattle.pcm.proofs.copy_front.Statement.{statement}
 use Rattle.pcm.proofs.copy_front.Tie as tie
 

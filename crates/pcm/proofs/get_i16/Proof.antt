@@ -1,7 +1,7 @@
 -- `pcm::get_i16` meets its contract. Assumes nothing.
 use borrow.Author.Needs.{needs}
 use mir.Syntax.{w16}
-use Rattle.pcm.specs.Integers.{answered}
+use Rattle.pcm.specs.laws.Integers.{answered}
 use Rattle.pcm.specs.Samples.{sampleAt}
 use Rattle.pcm.proofs.get_i16.Statement.{statement}
 use Rattle.pcm.proofs.get_i16.Tie as tie

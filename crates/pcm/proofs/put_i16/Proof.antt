@@ -6,7 +6,7 @@ use lib.ListN.{set}
 use mir.Syntax.{w16, w32}
 use mir.Val.{toZ, ofZ}
 use mir.Facts.{sfits-widen}
-use Rattle.pcm.specs.Integers.{settled, read-back}
+use Rattle.pcm.specs.laws.Integers.{settled, read-back}
 use Rattle.pcm.specs.Samples.{stored, lowOf, highOf}
 use Rattle.pcm.proofs.Words.{up-fits, up-cast, up-bits}
 use Rattle.pcm.proofs.put_i16.Statement.{statement}

@@ -6,8 +6,9 @@ use mir.Val.{SFits, toZ, ofZ}
 use mir.Facts.{sfits-widen}
 use lib.IntN.{ℤ, pos, _-ℤ_}
 use Prim.Native.Nat.{_+_, _*_, _%_}
-use Rattle.pcm.specs.Integers.{settled}
-use Rattle.pcm.specs.Samples.{sampleOf, sample-fits}
+use Rattle.pcm.specs.laws.Integers.{settled}
+use Rattle.pcm.specs.Samples.{sampleOf}
+use Rattle.pcm.specs.laws.Samples.{sample-fits}
 use Rattle.pcm.proofs.Words.{sample-is}
 use Rattle.pcm.proofs.sample.Statement.{statement}
 use Rattle.pcm.proofs.sample.Tie as tie

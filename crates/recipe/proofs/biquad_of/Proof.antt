@@ -4,7 +4,8 @@ use mathlib.Core.Path.{_≡_, sym, _∙_}
 use Prim.Native.Nat.{ℕ, _+_, _*_, _<_}
 use native.Mathlib.Omega.{arith}
 use lib.ListN.{getD, drop}
-use Rattle.recipe.specs.Words.{wordAt, words, word-number}
+use Rattle.words.specs.Words.{wordAt, words}
+use Rattle.words.specs.laws.Words.{word-number}
 use Rattle.recipe.specs.Records.{recordOf}
 use Rattle.recipe.proofs.biquad_of.Statement.{statement}
 use Rattle.recipe.proofs.biquad_of.Tie as tie

@@ -1,5 +1,5 @@
 -- `recipe::field_count` meets its contract. Assumes nothing.
-use Rattle.recipe.specs.Records.{last-kind}
+use Rattle.recipe.proofs.Records.{last-kind}
 use Rattle.recipe.proofs.field_count.Statement.{statement}
 use Rattle.recipe.proofs.field_count.Tie as tie
 

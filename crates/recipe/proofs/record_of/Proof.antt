@@ -6,10 +6,11 @@ use Prim.Native.Nat.{ℕ, _+_, _*_, _≤_}
 use lib.ListN.{length}
 use mir.Syntax.{w32}
 use mir.Val.{toZ}
-use Rattle.pcm.specs.Integers.{answered}
+use Rattle.pcm.specs.laws.Integers.{answered}
 use Rattle.recipe.specs.declared.Record.the-variants as rec
-use Rattle.recipe.specs.Words.{word-number}
-use Rattle.recipe.specs.Records.{recordOf, fieldCount, last-kind}
+use Rattle.words.specs.laws.Words.{word-number}
+use Rattle.recipe.specs.Records.{recordOf, fieldCount}
+use Rattle.recipe.proofs.Records.{last-kind}
 use Rattle.recipe.proofs.record_of.Statement.{statement}
 use Rattle.recipe.proofs.record_of.Tie as tie
 

@@ -8,7 +8,8 @@ use borrow.Author.Tests.{le-leb, lt-leb, eq-eqb, ne-eqb, not-true, not-false}
 use lib.Dec.{leb, eqb}
 use mathlib.Core.List.{List}
 use lib.ListN.{length}
-use Rattle.recipe.specs.Records.{recordVerdict, known, fieldCount, lengthAt, kindAt, few-fields}
+use Rattle.recipe.specs.Records.{recordVerdict, known, fieldCount, lengthAt, kindAt}
+use Rattle.recipe.proofs.Records.{few-fields}
 use Rattle.recipe.proofs.record_question.Statement.{statement}
 use Rattle.recipe.proofs.record_question.Tie as tie
 

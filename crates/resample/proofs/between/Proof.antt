@@ -3,9 +3,9 @@ use borrow.Author.Needs.{needs}
 use mathlib.Core.Path.{sym, ap₂, _∙_}
 use lib.IntN.{ℤ}
 use mir.Syntax.{w16}
-use Rattle.pcm.specs.Integers.{answered, read-back}
+use Rattle.pcm.specs.laws.Integers.{answered, read-back}
 use Rattle.resample.specs.Value.{interpolated}
-use Rattle.resample.specs.Stage.{earlier-first, earlier-inside}
+use Rattle.resample.proofs.Stage.{earlier-first, earlier-inside}
 use Rattle.resample.proofs.between.Statement.{statement}
 use Rattle.resample.proofs.between.Tie as tie
 

@@ -8,8 +8,10 @@ use lib.IntN.{ℤ, pos, _+ℤ_, _-ℤ_, _*ℤ_}
 use mir.Syntax.{w16, w64}
 use mir.Val.{SFits, toZ, ofZ}
 use mir.Facts.{sfits-widen}
-use Rattle.pcm.specs.Integers.{floorDiv, abs-self, add-within, sub-within, mul-within, floor-within, within-fits, fits-within, read-back, settled}
-use Rattle.resample.specs.Value.{interpolated, interpolated-fits}
+use Rattle.pcm.specs.Integers.{floorDiv}
+use Rattle.pcm.specs.laws.Integers.{abs-self, add-within, sub-within, mul-within, floor-within, within-fits, fits-within, read-back, settled}
+use Rattle.resample.specs.Value.{interpolated}
+use Rattle.resample.specs.laws.Value.{interpolated-fits}
 use Rattle.resample.proofs.interpolate.Statement.{statement}
 use Rattle.resample.proofs.interpolate.Tie as tie
 

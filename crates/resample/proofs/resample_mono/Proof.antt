@@ -8,11 +8,12 @@ use lib.IntN.{ℤ, pos}
 use lib.ListN.{length, getD}
 use mir.Syntax.{w16}
 use mir.Val.{toZ, ofZ}
-use Rattle.pcm.specs.Integers.{answered}
+use Rattle.pcm.specs.laws.Integers.{answered}
 use Rattle.pcm.specs.Samples.{sampleAt}
 use Rattle.pcm.specs.Frames.{framesOf}
-use Rattle.resample.specs.Resample.{outputs}
-use Rattle.resample.specs.Stage.{start, Looped}
+use Rattle.resample.specs.Resample.{outputsFrom}
+use Rattle.rates.specs.Rates.{start}
+use Rattle.resample.specs.Stage.{Looped}
 use Rattle.resample.proofs.Blocks.{mono-same, some-frame, loop-ready, past-ready, block-done}
 use Rattle.resample.proofs.resample_mono.Statement.{statement}
 use Rattle.resample.proofs.resample_mono.Tie as tie
@@ -31,7 +32,7 @@ run-mono-requires c κs =
 
 ran : (c : tie.After-run-mono) → let s = c .before .before .before .before .before .before .before in let a = s .args in
     Looped (a .in-r) (a .out-r) (start (a .out-r) (a .s .primed) (a .s .phase))
-    (outputs (a .in-r) (a .out-r) (start (a .out-r) (a .s .primed) (a .s .phase)) ((last-of s ∷ []) ∷ framesOf 1 (a .input .now))) (a .out .now) (c .run-mono .last .1 .0) (c .run-mono .result)
+    (outputsFrom (a .in-r) (a .out-r) (start (a .out-r) (a .s .primed) (a .s .phase)) ((last-of s ∷ []) ∷ framesOf 1 (a .input .now))) (a .out .now) (c .run-mono .last .1 .0) (c .run-mono .result)
 ran c = rw (c .before .before .before .first-position .ensures) at (c .run-mono .ensures)
 
 past-requires : tie.Need-past-requires

@@ -7,20 +7,20 @@ use lib.IntN.{ℤ}
 use lib.ListN.{length, drop}
 use mir.Syntax.{w16}
 use mir.Val.{toZ, ofZ}
-use Rattle.pcm.specs.Integers.{answered, read-back}
+use Rattle.pcm.specs.laws.Integers.{answered, read-back}
 use Rattle.pcm.specs.Samples.{sampleAt, lowOf, highOf}
 use Rattle.pcm.specs.Frames.{Frame, framesOf, bytesOf}
-use Rattle.pcm.specs.Writing.{writing-as, writing-put}
+use Rattle.pcm.specs.laws.Writing.{writing-as, writing-put}
 use Rattle.resample.specs.Value.{interpolated}
-use Rattle.resample.specs.Resample.{outputs}
-use Rattle.resample.specs.Place.{at-sum}
+use Rattle.resample.specs.Resample.{outputsFrom}
+use Rattle.resample.proofs.Place.{at-sum}
 use Rattle.resample.specs.Stage.{earlierOf, Ready}
 use Rattle.resample.proofs.Interpolating.{Progress, progress-start, progress-next, next-frame, Turn, turn, advance-ready, looped, mono-frame, bytes-mono}
 use Rattle.resample.proofs.run_mono.Statement.{statement}
 use Rattle.resample.proofs.run_mono.Tie as tie
 
 abbrev mono-outputs : ℕ → ℕ → ℕ → ℤ → List ℕ → List Frame
-mono-outputs i o num last input = outputs i o num ((last ∷ []) ∷ framesOf 1 input)
+mono-outputs i o num last input = outputsFrom i o num ((last ∷ []) ∷ framesOf 1 input)
 
 abbrev Inv-loop : tie.InvT-loop
 Inv-loop input out₀ last num in-r out-r samples step at₀ k₀ out at k = Progress 1 in-r out-r num (mono-outputs in-r out-r num (toZ w16 last) input) out₀ out k at

@@ -7,20 +7,20 @@ use lib.IntN.{ℤ}
 use lib.ListN.{length, drop}
 use mir.Syntax.{w16}
 use mir.Val.{toZ, ofZ}
-use Rattle.pcm.specs.Integers.{answered, read-back}
+use Rattle.pcm.specs.laws.Integers.{answered, read-back}
 use Rattle.pcm.specs.Samples.{sampleAt, lowOf, highOf}
 use Rattle.pcm.specs.Frames.{Frame, framesOf, bytesOf, written}
-use Rattle.pcm.specs.Writing.{Writing, writing-as, writing-put}
+use Rattle.pcm.specs.laws.Writing.{Writing, writing-as, writing-put}
 use Rattle.resample.specs.Value.{interpolated}
-use Rattle.resample.specs.Resample.{outputs}
-use Rattle.resample.specs.Place.{at-sum}
+use Rattle.resample.specs.Resample.{outputsFrom}
+use Rattle.resample.proofs.Place.{at-sum}
 use Rattle.resample.specs.Stage.{earlierOf, Ready}
 use Rattle.resample.proofs.Interpolating.{Progress, progress-start, progress-next, next-frame, Turn, turn, advance-ready, looped, stereo-frame, bytes-stereo}
 use Rattle.resample.proofs.run_stereo.Statement.{statement}
 use Rattle.resample.proofs.run_stereo.Tie as tie
 
 abbrev stereo-outputs : ℕ → ℕ → ℕ → ℤ → ℤ → List ℕ → List Frame
-stereo-outputs i o num left right input = outputs i o num ((left ∷ right ∷ []) ∷ framesOf 2 input)
+stereo-outputs i o num left right input = outputsFrom i o num ((left ∷ right ∷ []) ∷ framesOf 2 input)
 
 abbrev Inv-loop : tie.InvT-loop
 Inv-loop input out₀ left right num in-r out-r n step at₀ k₀ out at k = Progress 2 in-r out-r num (stereo-outputs in-r out-r num (toZ w16 left) (toZ w16 right) input) out₀ out k at

@@ -9,7 +9,7 @@ use mir.Syntax.{w16}
 use mir.Val.{SFits, toZ, ofZ}
 use mir.Facts.{toZ-ofZ}
 use Rattle.pcm.specs.Samples.{Samples}
-use Rattle.resample.specs.declared.ResamplerState.{ResamplerState}
+use Rattle.rates.specs.declared.ResamplerState.{ResamplerState}
 use Rattle.stage.proofs.held_samples.Statement.{statement}
 use Rattle.stage.proofs.held_samples.Tie as tie
 

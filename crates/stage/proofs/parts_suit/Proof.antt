@@ -6,7 +6,7 @@ use Prim.Native.Nat.{ℕ, _*_, _^_, _≤_, _<_}
 use native.Mathlib.Nat.{le-trans, lt-of-le-of-lt, mul-le-mul}
 use borrow.Author.Tests.{leb-true}
 use lib.Dec.{leb, ltb, lit<}
-use Rattle.stage.specs.Rooms.{both}
+use Rattle.pcm.specs.laws.Tests.{both}
 use Rattle.stage.proofs.parts_suit.Statement.{statement}
 use Rattle.stage.proofs.parts_suit.Tie as tie
 

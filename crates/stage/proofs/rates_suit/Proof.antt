@@ -6,8 +6,9 @@ use Prim.Native.Nat.{ℕ, _≤_}
 use borrow.Author.Tests.{leb-true}
 use lib.Dec.{leb, ltb}
 use Rattle.pcm.specs.Formats.{rateAllowed}
-use Rattle.resample.specs.Opening.{ratesAllowed}
-use Rattle.stage.specs.Rooms.{ratesSuit, both}
+use Rattle.rates.specs.Rates.{ratesAllowed}
+use Rattle.stage.specs.Rooms.{ratesSuit}
+use Rattle.pcm.specs.laws.Tests.{both}
 use Rattle.stage.proofs.rates_suit.Statement.{statement}
 use Rattle.stage.proofs.rates_suit.Tie as tie
 

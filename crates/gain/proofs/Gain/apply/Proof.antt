@@ -4,7 +4,7 @@ use mathlib.Core.Path.{_≡_, ap, _∙_}
 use lib.IntN.{ℤ}
 use mir.Syntax.{w16, w32}
 use mir.Val.{toZ, ofZ}
-use Rattle.pcm.specs.Integers.{answered, read-back}
+use Rattle.pcm.specs.laws.Integers.{answered, read-back}
 use Rattle.gain.specs.Gain.{scaled}
 use Rattle.gain.proofs.Gain.apply.Statement.{statement}
 use Rattle.gain.proofs.Gain.apply.Tie as tie

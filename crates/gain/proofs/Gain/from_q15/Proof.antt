@@ -1,7 +1,7 @@
 -- `gain::Gain::from_q15` meets its contract. Assumes nothing.
 use lib.IntN.{pos, negsuc}
 use mir.Syntax.{w32}
-use Rattle.pcm.specs.Samples.{tested-low, tested-high, tested-inside}
+use Rattle.pcm.specs.laws.Samples.{tested-low, tested-high, tested-inside}
 use Rattle.gain.specs.Gain.{heldFactor}
 use Rattle.gain.proofs.Gain.from_q15.Statement.{statement}
 use Rattle.gain.proofs.Gain.from_q15.Tie as tie

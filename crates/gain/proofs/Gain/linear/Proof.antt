@@ -2,7 +2,7 @@
 use borrow.Author.Needs.{needs}
 use lib.Ieee.{ofBits}
 use mir.Syntax.{w32}
-use Rattle.pcm.specs.Integers.{answered}
+use Rattle.pcm.specs.laws.Integers.{answered}
 use Rattle.gain.specs.Gain.{linearFactor}
 use Rattle.gain.proofs.Gain.linear.Statement.{statement}
 use Rattle.gain.proofs.Gain.linear.Tie as tie

@@ -7,9 +7,11 @@ use lib.IntN.{ℤ, pos}
 use lib.ListN.{length}
 use mir.Syntax.{w32}
 use mir.Val.{toZ, ofZ}
-use Rattle.pcm.specs.Samples.{Bytes, all-by-index}
+use Rattle.pcm.specs.Samples.{Bytes}
+use Rattle.pcm.specs.laws.Samples.{all-by-index}
 use Rattle.pcm.specs.Frames.{written}
-use Rattle.gain.specs.Gain.{scaledBytes, unity-bytes}
+use Rattle.gain.specs.Gain.{scaledBytes}
+use Rattle.gain.specs.Theorems.{unity-bytes}
 use Rattle.gain.proofs.Products.{near}
 use Rattle.gain.proofs.Gain.process.Statement.{statement}
 use Rattle.gain.proofs.Gain.process.Tie as tie

@@ -8,10 +8,11 @@ use borrow.Author.Tests.{not-true, not-false}
 use lib.ListN.{length, drop, length-drop}
 use lib.Seq.{take-all}
 use Rattle.pcm.specs.Formats.{formatAllowed}
-use Rattle.recipe.specs.Records.{readRecord, record-four}
+use Rattle.recipe.specs.Records.{readRecord}
+use Rattle.recipe.specs.laws.Records.{record-four}
 use Rattle.recipe.specs.declared.RecordAnswer.the-variants as read
-use Rattle.pipeline.specs.declared.opening.StageAnswer.the-variants as answer
-use Rattle.pipeline.specs.Opening.{stageAnswer}
+use Rattle.opening.specs.declared.StageAnswer.the-variants as answer
+use Rattle.opening.specs.Opening.{stageAnswer}
 use Rattle.pipeline.proofs.Opens.{Opens, opens-start, opens-end, opens-short, opens-size, opens-unfit, opens-room, opens-next, call-format, call-refused, call-opened, chain-is}
 use Rattle.pipeline.proofs.Pipeline.open.Statement.{statement}
 use Rattle.pipeline.proofs.Pipeline.open.Tie as tie

@@ -3,12 +3,13 @@ use borrow.Author.Needs.{needs}
 use mathlib.Core.Path.{_≡_, refl, sym, _∙_}
 use Prim.Native.Nat.{_-_, _≤_}
 use native.Mathlib.Omega.{arith}
-use lib.ListN.{length, take, drop}
+use lib.ListN.{length, take, drop, drop-of-length-le}
 use borrow.Author.Tests.{le-leb, lt-leb}
 use lib.Seq.{length-take-le}
-use lib.ListN.{drop-of-length-le}
-use Rattle.pipeline.specs.Reset.{outputFormat, formatLeaving, leaving-next}
-use Rattle.pipeline.proofs.Places.{noStage, unmapped}
+use Rattle.pipeline.specs.Reset.{outputFormat, formatLeaving}
+use Rattle.pipeline.proofs.ResetLaws.{leaving-next}
+use Rattle.stage.specs.laws.Places.{noStage}
+use Rattle.pcm.specs.laws.Lists.{unmapped}
 use Rattle.pipeline.proofs.Pipeline.output_format.Statement.{statement}
 use Rattle.pipeline.proofs.Pipeline.output_format.Tie as tie
 

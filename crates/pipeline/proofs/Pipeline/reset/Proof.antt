@@ -6,8 +6,10 @@ use native.Mathlib.Omega.{arith}
 use lib.ListN.{length}
 use native.Mathlib.Numerals.{add-one}
 use borrow.Author.Tests.{le-leb, lt-leb}
-use Rattle.pipeline.specs.Reset.{resetCall, clearedFront, cleared-none, cleared-next}
-use Rattle.pipeline.proofs.Places.{noStage, unmapped}
+use Rattle.pipeline.specs.Reset.{resetCall}
+use Rattle.pipeline.proofs.ResetLaws.{clearedFront, cleared-none, cleared-next}
+use Rattle.stage.specs.laws.Places.{noStage}
+use Rattle.pcm.specs.laws.Lists.{unmapped}
 use Rattle.pipeline.proofs.Pipeline.reset.Statement.{statement}
 use Rattle.pipeline.proofs.Pipeline.reset.Tie as tie
 

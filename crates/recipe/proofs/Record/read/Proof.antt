@@ -3,7 +3,8 @@ use borrow.Author.Needs.{needs}
 use mathlib.Core.Path.{_≡_, sym, _∙_}
 use native.Mathlib.Omega.{arith}
 use Rattle.pcm.specs.declared.Verdict.the-variants.{Accepted}
-use Rattle.recipe.specs.Records.{readRecord, recordVerdict, Whole, whole-record}
+use Rattle.recipe.specs.Records.{readRecord, recordVerdict}
+use Rattle.recipe.specs.laws.Records.{Whole, whole-record}
 use Rattle.recipe.proofs.Record.read.Statement.{statement}
 use Rattle.recipe.proofs.Record.read.Tie as tie
 

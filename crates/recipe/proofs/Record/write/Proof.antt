@@ -4,7 +4,9 @@ use mathlib.Core.Path.{_≡_, ap, _∙_}
 use Prim.Native.Nat.{_+_, _-_, _*_, _≤_}
 use native.Mathlib.Omega.{arith}
 use lib.ListN.{length, length-set}
-use Rattle.recipe.specs.Records.{fieldsOf, record-size, few-record-fields, record-stored}
+use Rattle.recipe.specs.Records.{fieldsOf}
+use Rattle.recipe.specs.laws.Records.{record-size, few-record-fields}
+use Rattle.recipe.proofs.Records.{record-stored}
 use Rattle.recipe.proofs.Record.write.Statement.{statement}
 use Rattle.recipe.proofs.Record.write.Tie as tie
 

@@ -1,0 +1,141 @@
+-- Laws of Beforehand.
+use mathlib.Core.Path.{_≡_, refl, sym, ap, ap₂, _∙_}
+use mathlib.Core.Bool.{Bool, true, false, cond, _&&_}
+use mathlib.Core.List.{List, [], _∷_}
+use Prim.Native.Nat.{ℕ, _*_, _≤_, _<_}
+use native.Mathlib.Nat.{le-refl, le-trans, suc-ne-zero}
+use native.Mathlib.Omega.{arith}
+use borrow.Author.Tests.{leb-true, leb-false, eqb-true, eqb-false}
+use lib.Dec.{eqb, leb}
+use lib.ListN.{length}
+use Rattle.pcm.specs.declared.PcmFormat.{PcmFormat}
+use Rattle.pcm.specs.Frames.{Frame}
+use Rattle.stage.specs.declared.Stage.{Stage}
+use Rattle.stage.specs.Stages.{stageOut, formatAfter}
+use Rattle.stage.specs.laws.Stages.{stage-out-nil}
+use Rattle.stage.specs.Rooms.{stageSuits, framesOut}
+use Rattle.stage.specs.laws.Rooms.{stage-count}
+use Rattle.pcm.specs.laws.Tests.{true-false}
+use Rattle.questions.specs.declared.Question.{Question}
+use Rattle.questions.specs.declared.Question.the-variants.{Block}
+use Rattle.questions.specs.declared.Due.{Due}
+use Rattle.questions.specs.declared.Walk.{Walk}
+use Rattle.block.specs.Chain.{chainOut}
+use Rattle.pipeline.specs.Reset.{formatLeaving}
+use Rattle.block.specs.BlockCall.{suited}
+use Rattle.questions.specs.Walk.{larger, dueOf, firstShort, roomOf, further, illegal, stepped, begun, copyRoom, blockFrames}
+use Rattle.questions.specs.laws.Walk.{walked}
+use Rattle.block.specs.laws.Bounds.{suited-rest, larger-left, larger-right, larger-least}
+use Rattle.block.specs.laws.Walking.{further-legal, further-format, walked-cons, walked-none, short-before, room-held, room-not-held, due-none, due-some}
+
+-- ---- the frames and the format that leave
+due-is : (w : Walk) (s : Stage) (xs : List Frame) → w .frames ≡ length xs → dueOf Block s (w .frames) .delivered ≡ length (stageOut s xs)
+due-is w s [] e = ap (λ (d : Due). d .delivered) (due-none w s e) ∙ sym (ap length (stage-out-nil s))
+due-is w s (x ∷ xs) e =
+    ap (λ (d : Due). d .delivered) (due-some w s (λ z. suc-ne-zero (length xs) (sym e ∙ z))) ∙ ap (framesOut (s .kind) (s .memory)) e ∙ sym (stage-count s (x ∷ xs))
+
+further-frames : (q : Question) (shorter : ℕ) (w : Walk) (s : Stage) → further q shorter w s .frames ≡ dueOf q s (w .frames) .delivered
+unfolding further
+further-frames q shorter w s = refl
+
+-- exactly as many as the stages will make of xs
+pub frames-leaving : (shorter : ℕ) (w : Walk) (l : List Stage) (xs : List Frame) → w .legal ≡ true → suited (w .format) l ≡ true → w .frames ≡ length xs
+    → walked Block shorter w l .frames ≡ length (chainOut l xs)
+frames-leaving shorter w [] xs h u e = ap (λ (v : Walk). v .frames) (walked-none Block shorter w) ∙ e
+frames-leaving shorter w (s ∷ l) xs h u e =
+    ap (λ (v : Walk). v .frames) (walked-cons Block shorter w s l h u)
+    ∙ frames-leaving shorter (further Block shorter w s) l (stageOut s xs) (further-legal Block shorter w s) (ap (λ (f : PcmFormat). suited f l) (further-format Block shorter w s) ∙ suited-rest (w .format) s l u)
+    (further-frames Block shorter w s ∙ due-is w s xs e)
+
+leaving-cons : (f : PcmFormat) (s : Stage) (l : List Stage) → formatLeaving f (s ∷ l) ≡ formatLeaving (formatAfter f (s .kind)) l
+unfolding formatLeaving
+leaving-cons f s l = refl
+
+leaving-none : (f : PcmFormat) → formatLeaving f [] ≡ f
+unfolding formatLeaving
+leaving-none f = refl
+
+pub format-leaving : (q : Question) (shorter : ℕ) (w : Walk) (l : List Stage) → w .legal ≡ true → suited (w .format) l ≡ true → walked q shorter w l .format ≡ formatLeaving (w .format) l
+format-leaving q shorter w [] h u = ap (λ (v : Walk). v .format) (walked-none q shorter w) ∙ sym (leaving-none (w .format))
+format-leaving q shorter w (s ∷ l) h u =
+    ap (λ (v : Walk). v .format) (walked-cons q shorter w s l h u)
+    ∙ format-leaving q shorter (further q shorter w s) l (further-legal q shorter w s) (ap (λ (f : PcmFormat). suited f l) (further-format q shorter w s) ∙ suited-rest (w .format) s l u)
+    ∙ ap (λ (f : PcmFormat). formatLeaving f l) (further-format q shorter w s) ∙ sym (leaving-cons (w .format) s l)
+
+-- ---- no stage is short exactly where the shorter half holds the largest room
+pub record Fits (shorter : ℕ) (w : Walk) : Type 0 where
+  pub enough : w .largest ≤ shorter → w .short ≡ 0
+  pub needed : w .short ≡ 0 → w .largest ≤ shorter
+
+module _ (shorter short most room : ℕ) (enough : most ≤ shorter → short ≡ 0) (needed : short ≡ 0 → most ≤ shorter) where
+  enough-next : larger most room ≤ shorter → firstShort shorter short room ≡ 0
+  enough-next h = room-held shorter short room (enough (le-trans (larger-left most room) h)) (le-trans (larger-right most room) h)
+
+  needed-next : firstShort shorter short room ≡ 0 → larger most room ≤ shorter
+  needed-next e = go (eqb short 0) refl (leb room shorter) refl
+    where
+      go : (t : Bool) → eqb short 0 ≡ t → (u : Bool) → leb room shorter ≡ u → larger most room ≤ shorter
+      go true k true m = larger-least most room shorter (needed (eqb-true _ _ k)) (leb-true _ _ m)
+      go true k false m =
+          let l : shorter < room = leb-false _ _ m in
+          absurd (let b : ⊥ = omega (arith, room-not-held shorter short room (eqb-true _ _ k) l, e) in b)
+      go false k u m = absurd (eqb-false _ _ k (sym (short-before shorter short room (eqb-false _ _ k)) ∙ e))
+
+module _ (q : Question) (shorter : ℕ) where
+  step-fits : (w : Walk) (s : Stage) → Fits shorter w → Fits shorter (stepped q shorter w s)
+  unfolding stepped further illegal
+  step-fits w s p = go (w .legal && stageSuits (w .format) (s .kind) (s .memory))
+    where
+      go : (t : Bool) → Fits shorter (cond t (further q shorter w s) (illegal (w .format)))
+      go true = record {
+        enough = enough-next shorter (w .short) (w .largest) (roomOf q w s) (p .enough) (p .needed);
+        needed = needed-next shorter (w .short) (w .largest) (roomOf q w s) (p .enough) (p .needed);
+      }
+      go false = record { enough = λ h. refl; needed = λ e. let b : 0 ≤ shorter = omega arith in b }
+
+  pub walked-fits : (w : Walk) (l : List Stage) → Fits shorter w → Fits shorter (walked q shorter w l)
+  unfolding walked
+  walked-fits w [] p = p
+  walked-fits w (s ∷ l) p = walked-fits (stepped q shorter w s) l (step-fits w s p)
+
+pub begun-fits : (f : PcmFormat) (count size shorter : ℕ) → Fits shorter (begun f count size shorter)
+unfolding begun
+begun-fits f count size shorter = go (copyRoom count (blockFrames f size * (f .channels * 2)))
+  where
+    zero-larger : (n : ℕ) → larger 0 n ≤ n
+    zero-larger n = larger-least 0 n n (omega arith) (le-refl n)
+
+    go : (room : ℕ) → Fits shorter (record { legal = true; format = f; frames = blockFrames f size; largest = room; short = firstShort shorter 0 room })
+    go room = record {
+      enough = λ h. enough-next shorter 0 0 room (λ k. refl) (λ k. omega arith) (le-trans (zero-larger room) h);
+      needed = λ e. le-trans (larger-right 0 room) (needed-next shorter 0 0 room (λ k. refl) (λ k. omega arith) e);
+    }
+
+-- ---- the largest room is the same whatever the halves
+pub record Alike (v w : Walk) : Type 0 where
+  pub legal : v .legal ≡ w .legal
+  pub format : v .format ≡ w .format
+  pub frames : v .frames ≡ w .frames
+  pub largest : v .largest ≡ w .largest
+
+module _ (q : Question) (shorter other : ℕ) where
+  step-alike : (v w : Walk) (s : Stage) → Alike v w → Alike (stepped q shorter v s) (stepped q other w s)
+  unfolding stepped further illegal roomOf
+  step-alike v w s p = go (v .legal && stageSuits (v .format) (s .kind) (s .memory)) (w .legal && stageSuits (w .format) (s .kind) (s .memory))
+      (ap₂ (λ (t : Bool) (f : PcmFormat). t && stageSuits f (s .kind) (s .memory)) (p .legal) (p .format))
+    where
+      go : (t u : Bool) → t ≡ u → Alike (cond t (further q shorter v s) (illegal (v .format))) (cond u (further q other w s) (illegal (w .format)))
+      go true true e = record {
+        legal = refl;
+        format = ap (λ (f : PcmFormat). formatAfter f (s .kind)) (p .format);
+        frames = ap (λ (n : ℕ). dueOf q s n .delivered) (p .frames);
+        largest = ap₂ larger (p .largest) (ap₂ (λ (n : ℕ) (f : PcmFormat). dueOf q s n .wanted * (formatAfter f (s .kind) .channels * 2)) (p .frames) (p .format));
+      }
+      go true false e = absurd (true-false e)
+      go false true e = absurd (true-false (sym e))
+      go false false e = record { legal = refl; format = p .format; frames = refl; largest = refl }
+
+  pub walked-alike : (v w : Walk) (l : List Stage) → Alike v w → Alike (walked q shorter v l) (walked q other w l)
+  unfolding walked
+  walked-alike v w [] p = p
+  walked-alike v w (s ∷ l) p = walked-alike (stepped q shorter v s) (stepped q other w s) l (step-alike v w s p)

@@ -1,0 +1,115 @@
+-- Laws of the definitions in Bounds. Assumes nothing.
+use mathlib.Core.Path.{_≡_, refl}
+use mathlib.Core.Bool.{Bool, true, false, cond, _&&_}
+use mathlib.Core.List.{List, [], _∷_}
+use Prim.Native.Nat.{ℕ, _*_, _≤_, _<_}
+use native.Mathlib.Nat.{le-refl, le-trans, mul-le-mul-right}
+use native.Mathlib.Omega.{arith}
+use borrow.Author.Tests.{leb-true, leb-false, le-leb, ltb-true}
+use lib.Dec.{eqb, leb, ltb}
+use Rattle.pcm.specs.declared.PcmFormat.{PcmFormat}
+use Rattle.pcm.specs.declared.Error.the-variants.{BufferTooSmall}
+use Rattle.pcm.specs.declared.Verdict.the-variants.{Accepted}
+use Rattle.pcm.specs.Formats.{formatAllowed, rateAllowed, channelsAllowed}
+use Rattle.pcm.specs.Refusals.{ask}
+use Rattle.rates.specs.Counting.{ceilDiv}
+use Rattle.rates.specs.laws.Counting.{ceil-reach, ceil-least}
+use Rattle.rates.specs.Rates.{roomFrames}
+use Rattle.stage.specs.declared.Stage.{Stage}
+use Rattle.stage.specs.declared.StageKind.{StageKind}
+use Rattle.stage.specs.declared.StageKind.the-variants as kind
+use Rattle.stage.specs.Stages.{formatAfter}
+use Rattle.stage.specs.Rooms.{stageSuits, framesOut, framesWanted, roomWanted, Bounded}
+use Rattle.stage.specs.laws.Rooms.{suits-bounded, wanted-holds}
+use Rattle.pcm.specs.laws.Tests.{both}
+use Rattle.pipeline.specs.declared.Pipeline.{Pipeline}
+use Rattle.block.specs.BlockCall.{suited, legal, roomsVerdict, largestRoom}
+use Rattle.pipeline.specs.WritingBack.{stagesOf}
+use Rattle.questions.specs.Walk.{larger}
+use Rattle.block.specs.Bounds.{Legal}
+
+-- ---- the stages one at a time
+module _ (f : PcmFormat) (s : Stage) (rest : List Stage) (h : suited f (s ∷ rest) ≡ true) where
+  pub suited-first : stageSuits f (s .kind) (s .memory) ≡ true
+  unfolding suited
+  suited-first = both (stageSuits f (s .kind) (s .memory)) (suited (formatAfter f (s .kind)) rest) h .0
+
+  pub suited-rest : suited (formatAfter f (s .kind)) rest ≡ true
+  unfolding suited
+  suited-rest = both (stageSuits f (s .kind) (s .memory)) (suited (formatAfter f (s .kind)) rest) h .1
+
+pub legal-parts : (c : Pipeline) → legal c ≡ true → Legal c
+unfolding legal formatAllowed rateAllowed channelsAllowed
+legal-parts c h =
+    let p = both (leb (c .count) 8) (formatAllowed (c .format) && suited (c .format) (stagesOf c)) h in
+    let q = both (formatAllowed (c .format)) (suited (c .format) (stagesOf c)) (p .1) in
+    let a = both (channelsAllowed (c .format .channels)) (rateAllowed (c .format .rate)) (q .0) in
+    let b = both (ltb 0 (c .format .channels)) (leb (c .format .channels) 2) (a .0) in
+    let d = both (ltb 0 (c .format .rate)) (leb (c .format .rate) 384000) (a .1) in
+    record {
+      few = leb-true _ _ (p .0);
+      rate = (ltb-true _ _ (d .0), leb-true _ _ (d .1));
+      channels = (ltb-true _ _ (b .0), leb-true _ _ (b .1));
+      suit = q .1;
+    }
+
+-- ---- scratch_bytes suffices
+pub larger-left : (a b : ℕ) → a ≤ larger a b
+unfolding larger
+larger-left a b = go (leb a b) refl
+  where
+    go : (t : Bool) → leb a b ≡ t → a ≤ cond t b a
+    go true e = leb-true a b e
+    go false e = le-refl a
+
+pub larger-right : (a b : ℕ) → b ≤ larger a b
+unfolding larger
+larger-right a b = go (leb a b) refl
+  where
+    go : (t : Bool) → leb a b ≡ t → b ≤ cond t b a
+    go true e = le-refl b
+    go false e = let l : b < a = leb-false a b e in omega arith
+
+pub larger-least : (a b m : ℕ) → a ≤ m → b ≤ m → larger a b ≤ m
+unfolding larger
+larger-least a b m h k = go (leb a b)
+  where
+    go : (t : Bool) → cond t b a ≤ m
+    go true = k
+    go false = h
+
+wanted-mono : (k : StageKind) (n m : ℕ) → Bounded k → n ≤ m → framesWanted k n ≤ framesWanted k m
+unfolding framesWanted roomFrames
+wanted-mono (kind.Gain g) n m b h = h
+wanted-mono kind.MonoToStereo n m b h = h
+wanted-mono kind.StereoToMono n m b h = h
+wanted-mono (kind.Resample q) n m b h =
+    let l : ceilDiv (n * q .«out_rate») (q .«in_rate») ≤ ceilDiv (m * q .«out_rate») (q .«in_rate») =
+    ceil-least (q .«in_rate») (b .input-rate .0) (n * q .«out_rate») (ceilDiv (m * q .«out_rate») (q .«in_rate»))
+    (le-trans (mul-le-mul-right (q .«out_rate») h) (ceil-reach (q .«in_rate») (b .input-rate .0) (m * q .«out_rate»))) in
+    omega (arith, l)
+wanted-mono (kind.DcBlock c) n m b h = h
+wanted-mono (kind.Biquad c) n m b h = h
+
+wanted-room : (f : PcmFormat) (k : StageKind) (n m : ℕ) → framesWanted k n ≤ framesWanted k m → roomWanted f k n ≤ roomWanted f k m
+unfolding roomWanted
+wanted-room f k n m w = mul-le-mul-right (formatAfter f k .channels * 2) w
+
+-- in any state: halves of the largestRoom room hold every stage's
+pub room-suffices : (f : PcmFormat) (l : List Stage) (n m short : ℕ) → suited f l ≡ true → n ≤ m → largestRoom f l m ≤ short → roomsVerdict f l n short ≡ Accepted
+unfolding roomsVerdict largestRoom
+room-suffices f [] n m short u h k = refl
+room-suffices f (s ∷ l) n m short u h k =
+    let a = suited-first f s l u in
+    let w : framesWanted (s .kind) n ≤ framesWanted (s .kind) m = wanted-mono (s .kind) n m (suits-bounded f (s .kind) (s .memory) a) h in
+    let r : roomWanted f (s .kind) n ≤ short = le-trans (wanted-room f (s .kind) n m w) (le-trans (larger-left (roomWanted f (s .kind) m) (largestRoom (formatAfter f (s .kind)) l (framesWanted (s .kind) m))) k) in
+    let i : roomsVerdict (formatAfter f (s .kind)) l (framesOut (s .kind) (s .memory) n) short ≡ Accepted =
+    room-suffices (formatAfter f (s .kind)) l (framesOut (s .kind) (s .memory) n) (framesWanted (s .kind) m) short (suited-rest f s l u)
+    (le-trans (wanted-holds f (s .memory) (s .kind) n a) w)
+    (le-trans (larger-right (roomWanted f (s .kind) m) (largestRoom (formatAfter f (s .kind)) l (framesWanted (s .kind) m))) k) in
+    go (eqb n 0) r i
+  where
+    go : (t : Bool) → roomWanted f (s .kind) n ≤ short → roomsVerdict (formatAfter f (s .kind)) l (framesOut (s .kind) (s .memory) n) short ≡ Accepted
+        → cond t Accepted (ask (leb (roomWanted f (s .kind) n) short) (BufferTooSmall (2 * roomWanted f (s .kind) n)) (roomsVerdict (formatAfter f (s .kind)) l (framesOut (s .kind) (s .memory) n) short)) ≡ Accepted
+    go true r i = refl
+    go false r i = rw (le-leb (roomWanted f (s .kind) n) short r) i

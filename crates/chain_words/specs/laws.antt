@@ -1,0 +1,5 @@
+pub mod Chains
+pub mod Kept
+pub mod Places
+pub mod ReadBack
+pub mod Storable

@@ -1,0 +1,71 @@
+-- Laws of the definitions in Channels. Assumes nothing.
+use mathlib.Core.Path.{_≡_, refl, ap, _∙_}
+use mathlib.Core.List.{List, [], _∷_, map}
+use Prim.Native.Nat.{ℕ, suc, _*_, _/_, _%_, _≤_, _<_}
+use native.Mathlib.Decide.{decLt}
+use native.Mathlib.Omega.{arith}
+use lib.IntN.{ℤ, pos, negsuc, subℕ}
+use lib.ListN.{length}
+use mir.Syntax.{w16}
+use mir.Val.{SFits}
+use Rattle.pcm.specs.Integers.{floorDiv}
+use Rattle.pcm.specs.laws.Integers.{sub-lt, sub-ge}
+use Rattle.pcm.specs.Samples.{sampleOf, lowOf, highOf}
+use Rattle.pcm.specs.Frames.{Frame, FrameOf, bytesOf}
+use Rattle.pcm.specs.laws.Frames.{frames-mono, frames-stereo, frames-nil}
+use Rattle.channels.specs.Channels.{doubled, stereoBytes, mean, mixdown, monoBytes}
+
+-- ---- laws: one frame more
+module _ (a b : ℕ) (rest : List ℕ) where
+  pub stereo-next : stereoBytes (a ∷ b ∷ rest) ≡ lowOf (sampleOf a b) ∷ highOf (sampleOf a b) ∷ lowOf (sampleOf a b) ∷ highOf (sampleOf a b) ∷ stereoBytes rest
+  unfolding stereoBytes bytesOf
+  stereo-next = ap (λ (fs : List Frame). bytesOf (map doubled fs)) (frames-mono a b rest)
+
+  pub mono-next : (c d : ℕ) → monoBytes (a ∷ b ∷ c ∷ d ∷ rest) ≡ lowOf (mean (sampleOf a b) (sampleOf c d)) ∷ highOf (mean (sampleOf a b) (sampleOf c d)) ∷ monoBytes rest
+  unfolding monoBytes bytesOf
+  mono-next c d = ap (λ (fs : List Frame). bytesOf (map mixdown fs)) (frames-stereo a b c d rest)
+
+pub stereo-nil : stereoBytes [] ≡ []
+unfolding stereoBytes bytesOf
+stereo-nil = ap (λ (fs : List Frame). bytesOf (map doubled fs)) (frames-nil 1)
+
+pub mono-nil : monoBytes [] ≡ []
+unfolding monoBytes bytesOf
+mono-nil = ap (λ (fs : List Frame). bytesOf (map mixdown fs)) (frames-nil 2)
+
+-- ---- laws: lengths
+pub length-stereo : (bytes : List ℕ) → length bytes % 2 ≡ 0 → length (stereoBytes bytes) ≡ length bytes * 2
+length-stereo [] e = ap length stereo-nil
+length-stereo (a ∷ []) e = absurd (let z : ⊥ = omega (arith, e) in z)
+length-stereo (a ∷ b ∷ rest) e = ap length (stereo-next a b rest) ∙ omega (arith, length-stereo rest (omega (arith, e)))
+
+pub length-mono : (bytes : List ℕ) → length bytes % 4 ≡ 0 → length (monoBytes bytes) ≡ length bytes / 2
+length-mono [] e = ap length mono-nil
+length-mono (a ∷ []) e = absurd (let z : ⊥ = omega (arith, e) in z)
+length-mono (a ∷ b ∷ []) e = absurd (let z : ⊥ = omega (arith, e) in z)
+length-mono (a ∷ b ∷ c ∷ []) e = absurd (let z : ⊥ = omega (arith, e) in z)
+length-mono (a ∷ b ∷ c ∷ d ∷ rest) e = ap length (mono-next a b rest c d) ∙ omega (arith, length-mono rest (omega (arith, e)))
+
+-- ---- laws: samples of samples
+mean-mixed : (a b : ℕ) → SFits w16 (pos a) → SFits w16 (negsuc b) → SFits w16 (floorDiv (subℕ a (suc b)) 2)
+mean-mixed a b f g = go (decLt a (suc b))
+  where
+    go : Dec (a < suc b) → SFits w16 (floorDiv (subℕ a (suc b)) 2)
+    go (yes l) = rw (sub-lt a (suc b) l) (record { sfits = omega (arith, g .sfits) })
+    go (no l) = let h : suc b ≤ a = omega arith in rw (sub-ge a (suc b) h) (record { sfits = omega (arith, f .sfits) })
+
+pub mean-fits : (l r : ℤ) → SFits w16 l → SFits w16 r → SFits w16 (mean l r)
+unfolding mean
+mean-fits (pos a) (pos b) f g = record { sfits = omega (arith, f .sfits, g .sfits) }
+mean-fits (pos a) (negsuc b) f g = mean-mixed a b f g
+mean-fits (negsuc a) (pos b) f g = mean-mixed b a g f
+mean-fits (negsuc a) (negsuc b) f g = record { sfits = omega (arith, f .sfits, g .sfits) }
+
+pub doubled-frame : (f : Frame) → FrameOf 1 f → FrameOf 2 (doubled f)
+doubled-frame [] h = absurd (let z : ⊥ = omega (arith, h .size) in z)
+doubled-frame (x ∷ f) h = record { size = refl; fits = (h .fits .0, (h .fits .0, tt)) }
+
+pub mixdown-frame : (f : Frame) → FrameOf 2 f → FrameOf 1 (mixdown f)
+mixdown-frame [] h = absurd (let z : ⊥ = omega (arith, h .size) in z)
+mixdown-frame (l ∷ []) h = absurd (let z : ⊥ = omega (arith, h .size) in z)
+mixdown-frame (l ∷ r ∷ f) h = record { size = refl; fits = (mean-fits l r (h .fits .0) (h .fits .1 .0), tt) }

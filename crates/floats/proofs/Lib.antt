@@ -1,0 +1,5 @@
+mod HalfUp
+mod Nan
+mod Short
+mod Ties
+mod Rounding

@@ -1,0 +1,33 @@
+-- Rounding to whole numbers, exact halves away from zero (document 01, lib.rs). Assumes nothing.
+use Prim.Native.Nat.{ℕ, _+_, _*_, _/_, _%_, _^_, min}
+use mathlib.Core.Bool.{true, false, cond}
+use lib.Dec.{leb}
+use lib.IntN.{ℤ, pos, negℤ}
+use lib.Ieee.{Float, nan, inf, fin, up, down, lt}
+
+-- n / d to the nearest whole number, a half up: the whole part, and one more where what is left is a half or more
+unfoldable pub halfUp : ℕ → ℕ → ℕ
+halfUp n d = n / d + cond (leb d (n % d * 2)) 1 0
+
+-- x to the nearest whole number, exact halves away from zero, held within -low and high; NaN gives 0.
+-- A finite float is m * 2 ^ e, as the fraction m * up e / down e, with its sign
+unfoldable pub roundSat : ℕ → ℕ → Float → ℤ
+roundSat low high nan = pos 0
+roundSat low high (inf s) = cond s (negℤ (pos low)) (pos high)
+roundSat low high (fin s m e) = cond s (negℤ (pos (min (halfUp (m * up e) (down e)) low))) (pos (min (halfUp (m * up e) (down e)) high))
+
+-- the magnitude alone, to the nearest whole number; an infinity's is past every limit that is asked for here
+unfoldable pub magnitude : Float → ℕ
+magnitude nan = 0
+magnitude (inf s) = 2 ^ 64
+magnitude (fin s m e) = halfUp (m * up e) (down e)
+
+-- a float held within limits, a NaN as it is
+abbrev pub atLeast : Float → Float → Float
+atLeast low x = cond (lt x low) low x
+
+abbrev pub atMost : Float → Float → Float
+atMost high x = cond (lt high x) high x
+
+unfoldable pub heldFloat : Float → Float
+heldFloat x = atMost (fin false 32767 (pos 0)) (atLeast (fin true 1 (pos 15)) x)

@@ -1,0 +1,31 @@
+-- `rates::LinearResampler::new` meets its contract. Assumes nothing.
+use borrow.Author.Needs.{needs}
+use mathlib.Core.Path.{_≡_, sym, _∙_}
+use mathlib.Core.Bool.{true}
+use Prim.Native.Nat.{_<_}
+use Rattle.rates.specs.laws.Divisor.{gcd-positive}
+use Rattle.rates.specs.Rates.{ratesAllowed, resamplerOf, reduced}
+use Rattle.rates.specs.laws.Rates.{rates-within}
+use Rattle.rates.proofs.LinearResampler.new.Statement.{statement}
+use Rattle.rates.proofs.LinearResampler.new.Tie as tie
+
+allowed : (c : tie.Then1) → ratesAllowed (c .before .before .args .in-rate) (c .before .before .args .out-rate) ≡ true
+allowed c = sym (c .before .rates-allowed .ensures) ∙ c .if1 .taken
+
+positive : (c : tie.After-gcd) → 0 < c .gcd .result
+positive c =
+    let a = c .before .before .before .args in
+    rw (c .gcd .ensures) (gcd-positive (a .in-rate) (a .out-rate) (rates-within (a .in-rate) (a .out-rate) (allowed (c .before)) .0 .0))
+
+returns : tie.Need-returns
+unfolding resamplerOf reduced
+returns c = rw (allowed (c .before), c .gcd .ensures)
+
+returns-2 : tie.Need-returns-2
+unfolding resamplerOf
+returns-2 c = rw (sym (c .before .rates-allowed .ensures) ∙ c .if1 .left)
+
+pub new-spec : {M : Type 1} → statement M
+new-spec = tie.close (tie.spec (λ c κs. search needs)
+    (λ c κs. let k = rates-within (c .before .before .args .in-rate) (c .before .before .args .out-rate) (allowed c) in (k .0 .0, k .1 .0))
+    positive positive returns returns-2)

@@ -1,0 +1,4 @@
+pub mod Counting
+pub mod Divisor
+pub mod Rates
+pub mod laws

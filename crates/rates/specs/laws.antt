@@ -1,0 +1,3 @@
+pub mod Counting
+pub mod Divisor
+pub mod Rates

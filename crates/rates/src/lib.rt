@@ -1,0 +1,136 @@
+// A resampler's rates, and the frames that it wants and delivers, from the phase alone (resample.rs).
+ghost use mathlib.Core.Path.{_≡_};
+ghost use Prim.Native.Nat.{_+_, _*_, _<_, _^_};
+ghost use Rattle.rates.specs.Divisor.{gcd};
+ghost use Rattle.rates.specs.Rates.{openedState, resampledCount, ratesAllowed, resamplerOf, roomFrames, maxFrames, start};
+use pcm::Error;
+
+// The rates, and the same divided by their greatest common divisor.
+pub struct LinearResampler {
+    pub in_rate: u32,
+    pub out_rate: u32,
+    pub in_r: u64,
+    pub out_r: u64,
+}
+
+// The newest frame, one sample a channel, and how far past it the next output lies, in out_r-ths of a frame.
+pub struct ResamplerState {
+    pub last: [i16; 2],
+    pub phase: u64,
+    pub primed: bool,
+}
+
+pub enum NewResampler {
+    Made(LinearResampler),
+    Refused(Error),
+}
+
+pub enum MaxFrames {
+    Frames(usize),
+    Refused(Error),
+}
+
+impl ResamplerState {
+    // As opened, and after a reset.
+    pub fn new() -> ResamplerState
+        ensures { λ r. ⌜ r ≡ openedState ⌝ }
+    {
+        ResamplerState {
+            last: [0, 0],
+            phase: 0,
+            primed: false,
+        }
+    }
+}
+
+// The greatest common divisor.
+fn gcd(x: u64, y: u64) -> u64
+    requires { ⌜ (0 < x) × (0 < y) ⌝ }
+    ensures { λ r. ⌜ r ≡ gcd x y ⌝ }
+{
+    let mut a = x;
+    let mut b = y;
+    while b != 0 {
+        let t = a % b;
+        a = b;
+        b = t;
+    }
+    a
+}
+
+// Are both rates within the limit?
+pub fn rates_allowed(in_rate: u32, out_rate: u32) -> bool
+    ensures { λ r. ⌜ r ≡ ratesAllowed «in_rate» «out_rate» ⌝ }
+{
+    if pcm::rate_allowed(in_rate) {
+        return pcm::rate_allowed(out_rate);
+    }
+    false
+}
+
+// The first output's position, where 0 is the state's newest frame and out_r the first of the block.
+pub fn first_position(out_r: u64, primed: bool, phase: u64) -> u64
+    ensures { λ r. ⌜ r ≡ start «out_r» primed phase ⌝ }
+{
+    if primed {
+        return phase;
+    }
+    out_r
+}
+
+impl LinearResampler {
+    // A resampler between two rates of 1 to 384,000.
+    pub fn new(in_rate: u32, out_rate: u32) -> NewResampler
+        ensures { λ r. ⌜ r ≡ resamplerOf «in_rate» «out_rate» ⌝ }
+    {
+        if rates_allowed(in_rate, out_rate) {
+            let g = gcd(in_rate as u64, out_rate as u64);
+            return NewResampler::Made(LinearResampler {
+                in_rate: in_rate,
+                out_rate: out_rate,
+                in_r: (in_rate as u64) / g,
+                out_r: (out_rate as u64) / g,
+            });
+        }
+        NewResampler::Refused(Error::InvalidFormat)
+    }
+
+    // The room wanted for any number of frames, in frames. The caller keeps the product within 64 bits.
+    pub fn room_frames(self, frames: usize) -> usize
+        requires { ⌜ (0 < self .«in_rate») × (frames * self .«out_rate» + self .«in_rate» < 2 ^ 64) ⌝ }
+        ensures { λ r. ⌜ r ≡ roomFrames (self .«in_rate») (self .«out_rate») frames ⌝ }
+    {
+        let wanted = frames * (self.out_rate as usize);
+        let divisor = self.in_rate as usize;
+        (wanted + (divisor - 1)) / divisor + 1
+    }
+
+    // The room wanted for a block of at most 8,192 frames, in frames.
+    pub fn max_output_frames(self, frames: usize) -> MaxFrames
+        ensures { λ r. ⌜ r ≡ maxFrames self frames ⌝ }
+    {
+        if rates_allowed(self.in_rate, self.out_rate) {
+            if frames <= pcm::MAX_FRAMES {
+                return MaxFrames::Frames(self.room_frames(frames));
+            }
+            return MaxFrames::Refused(Error::TooManyFrames);
+        }
+        MaxFrames::Refused(Error::InvalidFormat)
+    }
+
+    // How many frames the stage makes of so many, from the phase alone: exact, at equal rates also.
+    pub fn output_frames(self, primed: bool, phase: u64, frames: usize) -> usize
+        requires { ⌜ (0 < self .«in_r») × (frames * self .«out_r» + self .«in_r» < 2 ^ 64) ⌝ }
+        ensures { λ r. ⌜ r ≡ resampledCount self primed phase frames ⌝ }
+    {
+        if self.in_rate == self.out_rate {
+            return frames;
+        }
+        let end = (frames as u64) * self.out_r;
+        let num = first_position(self.out_r, primed, phase);
+        if end <= num {
+            return 0;
+        }
+        ((end - num + (self.in_r - 1)) / self.in_r) as usize
+    }
+}

@@ -1,0 +1,43 @@
+-- Laws of Records.
+use mathlib.Core.Path.{_≡_, _∙_}
+use mathlib.Core.Bool.{true}
+use mathlib.Core.List.{List, [], _∷_, _++_}
+use Prim.Native.Nat.{ℕ, zero, suc, _+_, _-_, _*_, _≤_}
+use native.Mathlib.Nat.{zero-add}
+use native.Mathlib.Omega.{arith}
+use lib.ListN.{length, getD}
+use lib.Seq.{sets, sets-eq}
+use Rattle.recipe.specs.declared.Record.{Record}
+use Rattle.words.specs.Words.{wordBytes, wordsBytes}
+use Rattle.pcm.specs.Frames.{written}
+use Rattle.recipe.specs.Records.{known, fieldCount, kindNumber, fieldsOf, recordBytes}
+use Rattle.recipe.specs.laws.Records.{known-within}
+
+-- ---- laws of the table of kinds
+pub few-fields : (kind : ℕ) → fieldCount kind ≤ 6
+few-fields kind = entry (kind - 1)
+  where
+    entry : (n : ℕ) → getD (1 ∷ 0 ∷ 0 ∷ 2 ∷ 1 ∷ 6 ∷ []) n 0 ≤ 6
+    entry zero = omega arith
+    entry (suc zero) = omega arith
+    entry (suc (suc zero)) = omega arith
+    entry (suc (suc (suc zero))) = omega arith
+    entry (suc (suc (suc (suc zero)))) = omega arith
+    entry (suc (suc (suc (suc (suc zero))))) = omega arith
+    entry (suc (suc (suc (suc (suc (suc n)))))) = omega arith
+
+-- a known kind that is none of the first five
+pub last-kind : (kind : ℕ) → known kind ≡ true → (kind ≡ 1 → ⊥) → (kind ≡ 2 → ⊥) → (kind ≡ 3 → ⊥) → (kind ≡ 4 → ⊥) → (kind ≡ 5 → ⊥) → kind ≡ 6
+last-kind kind h a b c d e = let k = known-within kind h in top kind (k .1) (past 5 kind (past 4 kind (past 3 kind (past 2 kind (past 1 kind (k .0) a) b) c) d) e)
+  where
+    past : (n m : ℕ) → n ≤ m → (m ≡ n → ⊥) → suc n ≤ m
+    past n m i j = omega arith
+
+    top : (m : ℕ) → m ≤ 6 → 6 ≤ m → m ≡ 6
+    top m i j = omega arith
+
+-- the head and the fields, stored one after the other
+pub record-stored : (r : Record) (out : List ℕ) → length (recordBytes r) ≤ length out
+    → sets (sets (sets out 0 (wordBytes 2 (2 + 4 * length (fieldsOf r)))) 2 (wordBytes 2 (kindNumber r))) 4 (wordsBytes (fieldsOf r)) ≡ written (recordBytes r) out
+unfolding recordBytes written
+record-stored r out h = sets-eq (wordBytes 2 (2 + 4 * length (fieldsOf r)) ++ (wordBytes 2 (kindNumber r) ++ wordsBytes (fieldsOf r))) out 0 (omega arith) ∙ rw zero-add

@@ -1,0 +1,147 @@
+-- Laws of the definitions in RoundTrip. Assumes nothing.
+use mathlib.Core.Path.{_≡_, refl, sym, ap, ap₂, _∙_}
+use mathlib.Core.Bool.{true, false}
+use mathlib.Core.List.{List, [], _∷_, _++_}
+use Prim.Native.Nat.{ℕ, zero, suc, _+_, _*_, _≤_, _<_}
+use native.Mathlib.Omega.{arith}
+use lib.ListN.{length, take, drop, length-drop}
+use lib.Seq.{take-add, drop-drop, length-take-le}
+use mir.Syntax.{w32}
+use mir.Facts.{toZ-ofZ, ofZ-toZ, fits-ofZ}
+use Rattle.pcm.specs.Samples.{Bytes}
+use Rattle.pcm.specs.laws.Frames.{all-take, all-drop}
+use Rattle.recipe.specs.declared.Record.{Record}
+use Rattle.recipe.specs.declared.Record.the-variants as rec
+use Rattle.words.specs.Words.{Words, wordAt, wordBytes, words, wordsBytes}
+use Rattle.words.specs.laws.Words.{word-back, words-back, words-below}
+use Rattle.recipe.specs.Records.{known, fieldCount, kindNumber, fieldsOf, recordBytes, recordOf, lengthAt, kindAt, recordAt}
+use Rattle.recipe.specs.laws.Records.{known-within, Whole, record-size}
+use Rattle.recipe.specs.RoundTrip.{Fitting}
+
+-- ---- what is written reads back
+pub fitting-words : (r : Record) → Fitting r → Words (fieldsOf r)
+fitting-words (rec.Gain q15) f = let g = fits-ofZ f in (g .fits, tt)
+fitting-words rec.MonoToStereo f = tt
+fitting-words rec.StereoToMono f = tt
+fitting-words (rec.Resample input output) f = f
+fitting-words (rec.DcBlock corner) f = f
+fitting-words (rec.Biquad rate bits) f = f
+
+pub kind-known : (r : Record) → known (kindNumber r) ≡ true
+kind-known (rec.Gain q15) = refl
+kind-known rec.MonoToStereo = refl
+kind-known rec.StereoToMono = refl
+kind-known (rec.Resample input output) = refl
+kind-known (rec.DcBlock corner) = refl
+kind-known (rec.Biquad rate bits) = refl
+
+pub kind-small : (r : Record) → kindNumber r < 65536
+kind-small (rec.Gain q15) = omega arith
+kind-small rec.MonoToStereo = omega arith
+kind-small rec.StereoToMono = omega arith
+kind-small (rec.Resample input output) = omega arith
+kind-small (rec.DcBlock corner) = omega arith
+kind-small (rec.Biquad rate bits) = omega arith
+
+pub kind-fields : (r : Record) → fieldCount (kindNumber r) ≡ length (fieldsOf r)
+kind-fields (rec.Gain q15) = refl
+kind-fields rec.MonoToStereo = refl
+kind-fields rec.StereoToMono = refl
+kind-fields (rec.Resample input output) = refl
+kind-fields (rec.DcBlock corner) = refl
+kind-fields (rec.Biquad rate bits) = refl
+
+pub record-again : (r : Record) → Fitting r → recordOf (kindNumber r) (fieldsOf r) ≡ r
+unfolding recordOf
+record-again (rec.Gain q15) f = ap rec.Gain (toZ-ofZ f)
+record-again rec.MonoToStereo f = refl
+record-again rec.StereoToMono f = refl
+record-again (rec.Resample input output) f = refl
+record-again (rec.DcBlock corner) f = refl
+record-again (rec.Biquad rate bits) f = refl
+
+-- ---- what was read is written back
+absurd-known : false ≡ true → ⊥
+absurd-known e = let z : _≡_ {A = ℕ} 0 1 = cc in omega arith
+
+no-seventh : (k : ℕ) → known (suc (suc (suc (suc (suc (suc (suc k))))))) ≡ true → ⊥
+no-seventh k h = let m = known-within (suc (suc (suc (suc (suc (suc (suc k))))))) h in omega (arith, m .1)
+
+kind-again : (k : ℕ) (fields : List ℕ) → known k ≡ true → kindNumber (recordOf k fields) ≡ k
+unfolding recordOf
+kind-again zero fields h = absurd (absurd-known h)
+kind-again (suc zero) fields h = refl
+kind-again (suc (suc zero)) fields h = refl
+kind-again (suc (suc (suc zero))) fields h = refl
+kind-again (suc (suc (suc (suc zero)))) fields h = refl
+kind-again (suc (suc (suc (suc (suc zero))))) fields h = refl
+kind-again (suc (suc (suc (suc (suc (suc zero)))))) fields h = refl
+kind-again (suc (suc (suc (suc (suc (suc (suc k))))))) fields h = absurd (no-seventh k h)
+
+count-again : (k : ℕ) (l : List ℕ) → known k ≡ true → length (fieldsOf (recordOf k l)) ≡ fieldCount k
+unfolding recordOf
+count-again zero l h = absurd (absurd-known h)
+count-again (suc zero) l h = refl
+count-again (suc (suc zero)) l h = refl
+count-again (suc (suc (suc zero))) l h = refl
+count-again (suc (suc (suc (suc zero)))) l h = refl
+count-again (suc (suc (suc (suc (suc zero))))) l h = refl
+count-again (suc (suc (suc (suc (suc (suc zero)))))) l h = refl
+count-again (suc (suc (suc (suc (suc (suc (suc k))))))) l h = absurd (no-seventh k h)
+
+fields-again : (k : ℕ) (l : List ℕ) → known k ≡ true → Words (words (fieldCount k) l) → fieldsOf (recordOf k (words (fieldCount k) l)) ≡ words (fieldCount k) l
+unfolding recordOf
+fields-again zero l h f = absurd (absurd-known h)
+fields-again (suc zero) l h f = ap (λ (x : ℕ). x ∷ []) (ofZ-toZ {w = w32} (record { fits = f .0 }))
+fields-again (suc (suc zero)) l h f = refl
+fields-again (suc (suc (suc zero))) l h f = refl
+fields-again (suc (suc (suc (suc zero)))) l h f = refl
+fields-again (suc (suc (suc (suc (suc zero))))) l h f = refl
+fields-again (suc (suc (suc (suc (suc (suc zero)))))) l h f = refl
+fields-again (suc (suc (suc (suc (suc (suc (suc k))))))) l h f = absurd (no-seventh k h)
+
+module _ (left : List ℕ) (w : Whole left) where
+  count-read : length (fieldsOf (recordAt left)) ≡ fieldCount (kindAt left)
+  count-read = count-again (kindAt left) (words (fieldCount (kindAt left)) (drop 4 left)) (w .kind)
+
+  -- a record has as many bytes as its questions found there
+  pub size-read : length (recordBytes (recordAt left)) ≡ 4 + 4 * fieldCount (kindAt left)
+  size-read = record-size (recordAt left) ∙ ap (λ (m : ℕ). 4 + 4 * m) count-read
+
+  pub size-within : length (recordBytes (recordAt left)) ≤ length left
+  size-within = rw size-read (w .there)
+
+  length-again : 2 + 4 * length (fieldsOf (recordAt left)) ≡ lengthAt left
+  length-again = ap (λ (m : ℕ). 2 + 4 * m) count-read ∙ sym (w .size)
+
+-- what was read, written again, is the same bytes
+module _ (left : List ℕ) (w : Whole left) (b : Bytes left) where
+  fields-kept : fieldsOf (recordAt left) ≡ words (fieldCount (kindAt left)) (drop 4 left)
+  fields-kept =
+      fields-again (kindAt left) (drop 4 left) (w .kind)
+      (words-below (fieldCount (kindAt left)) (drop 4 left) (rw length-drop (omega (arith, w .there))) (all-drop _ 4 left b))
+
+  fields-bytes : wordsBytes (fieldsOf (recordAt left)) ≡ take (4 * fieldCount (kindAt left)) (drop 4 left)
+  fields-bytes = ap wordsBytes fields-kept ∙ words-back (fieldCount (kindAt left)) (drop 4 left) (rw length-drop (omega (arith, w .there))) (all-drop _ 4 left b)
+
+  pair-again : (i : ℕ) → i + 2 ≤ length left → wordBytes 2 (wordAt 2 i left) ≡ take 2 (drop i left)
+  pair-again i h =
+      let l : length (take 2 (drop i left)) ≡ 2 = length-take-le 2 (drop i left) (rw length-drop (omega arith)) in
+      rw l at (word-back (take 2 (drop i left)) (all-take _ 2 (drop i left) (all-drop _ i left b)))
+
+  parts : (n : ℕ) → take 2 left ++ (take 2 (drop 2 left) ++ take n (drop 4 left)) ≡ take (4 + n) left
+  parts n =
+      let e : 2 + (2 + n) ≡ 4 + n = omega arith in
+      ap (λ (x : List ℕ). take 2 left ++ (take 2 (drop 2 left) ++ take n x)) (sym (drop-drop 2 2 left))
+      ∙ ap (λ (x : List ℕ). take 2 left ++ x) (sym (take-add 2 n (drop 2 left))) ∙ sym (take-add 2 (2 + n) left) ∙ ap (λ (m : ℕ). take m left) e
+
+  record-parts : (r : Record) → recordBytes r ≡ wordBytes 2 (2 + 4 * length (fieldsOf r)) ++ (wordBytes 2 (kindNumber r) ++ wordsBytes (fieldsOf r))
+  unfolding recordBytes
+  record-parts r = refl
+
+  pub written-read : recordBytes (recordAt left) ≡ take (length (recordBytes (recordAt left))) left
+  written-read =
+      record-parts (recordAt left)
+      ∙ ap₂ (λ (x y : List ℕ). x ++ y) (ap (wordBytes 2) (length-again left w) ∙ pair-again 0 (omega (arith, w .four)))
+      (ap₂ (λ (x y : List ℕ). x ++ y) (ap (wordBytes 2) (kind-again (kindAt left) (words (fieldCount (kindAt left)) (drop 4 left)) (w .kind)) ∙ pair-again 2 (omega (arith, w .four))) fields-bytes)
+      ∙ parts (4 * fieldCount (kindAt left)) ∙ ap (λ (m : ℕ). take m left) (sym (size-read left w))

@@ -1,0 +1,4 @@
+pub mod Rooms
+pub mod Serving
+pub mod Stages
+pub mod Places

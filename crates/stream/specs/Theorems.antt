@@ -1,0 +1,124 @@
+-- What the definitions come to: the chief theorems of this crate. Assumes nothing.
+use mathlib.Core.Path.{_≡_, refl, sym, ap, _∙_}
+use mathlib.Core.Bool.{Bool, true, false}
+use mathlib.Core.List.{List, [], _∷_}
+use Prim.Native.Nat.{ℕ, _*_, _≤_, zero, suc}
+use native.Mathlib.Omega.{arith}
+use borrow.Author.Tests.{le-leb}
+use lib.Dec.{leb}
+use lib.ListN.{length, drop}
+use native.Mathlib.Nat.{zero-add}
+use Rattle.pcm.specs.declared.PcmFormat.{PcmFormat}
+use Rattle.pcm.specs.declared.Error.the-variants.{InvalidFormat}
+use Rattle.pcm.specs.declared.Verdict.the-variants.{Accepted}
+use Rattle.pcm.specs.Formats.{formatAllowed}
+use Rattle.pcm.specs.Refusals.{ask, numberOf}
+use Rattle.pipeline.specs.Opening.{asked, openStages, openedOf, openCall}
+use Rattle.stream.specs.Opened.{FreshlyOpened, kindsIn}
+use Rattle.stream.specs.laws.Opening.{not-accepted, stages-opened, stages-chain}
+use Rattle.pcm.specs.Samples.{All, Bytes}
+use Rattle.stream.specs.Calls.{Call, Lent, runOf}
+use Rattle.stream.specs.Stream.{streamOf}
+use Rattle.stream.specs.WholeStream.{WholeStream}
+use Rattle.stream.specs.laws.WholeStream.{whole-stream-of}
+use Rattle.pcm.specs.Frames.{written, Frame}
+use Rattle.stage.specs.Stages.{kindsOf}
+use Rattle.pcm.specs.laws.Tests.{both}
+use Rattle.pipeline.specs.declared.Pipeline.{Pipeline}
+use Rattle.pipeline.specs.declared.Opened.{Opened}
+use Rattle.pipeline.specs.declared.WriteAnswer.the-variants as answer
+use Rattle.writing.specs.WritingBack.{recipeOf}
+use Rattle.pipeline.specs.WritingBack.{writeVerdict, writeCall, stagesOf}
+use Rattle.pipeline.specs.laws.RoundTrip.{recipe-of-kinds}
+use Rattle.pipeline.specs.Theorems.{recipe-kept}
+use Rattle.block.specs.declared.Scratch.the-variants as scratch
+use Rattle.block.specs.BlockCall.{legal, blockVerdict, scratchBytes}
+use Rattle.block.specs.laws.Bounds.{legal-parts}
+use Rattle.block.specs.Theorems.{scratch-suffices}
+use Rattle.stream.specs.laws.PlainRoom.{suited-still}
+use Rattle.stream.specs.laws.AfterCalls.{suit, begun}
+use Rattle.stream.specs.laws.Afterwards.{kinds-of-state}
+use Rattle.stream.specs.Counters.{heldCount, acceptedBlocks, nothingFrom}
+use Rattle.stream.specs.laws.Counters.{nothing-calls, counted-calls, open-counters}
+use Rattle.stage.specs.declared.StageKind.{StageKind}
+use Rattle.stream.specs.PlainChain.{plainStage, plainOut, receivedBy, deliveredBy}
+
+pub opened-chain : (f : PcmFormat) (recipe : List ℕ) → openCall f recipe .verdict ≡ Accepted → FreshlyOpened (openCall f recipe .chain)
+unfolding openCall
+opened-chain f recipe h = go (formatAllowed f) refl h
+  where
+    go : (t : Bool) → formatAllowed f ≡ t → openedOf f (asked (ask t InvalidFormat Accepted) (openStages 8 f recipe)) .verdict ≡ Accepted
+        → FreshlyOpened (openedOf f (asked (ask t InvalidFormat Accepted) (openStages 8 f recipe)) .chain)
+    go true e h = stages-chain f e (openStages 8 f recipe) (stages-opened 8 f recipe) h
+    go false e h = not-accepted (cc)
+
+-- whatever the format and the recipe that opening accepts, the block and reset calls, and the blocks and halves that they bring
+pub whole-stream : (f : PcmFormat) (recipe : List ℕ) → openCall f recipe .verdict ≡ Accepted → (calls : List Call) → All Lent calls
+    → WholeStream (openCall f recipe .chain) (streamOf (openCall f recipe .chain) calls) (runOf (openCall f recipe .chain) calls)
+whole-stream f recipe h calls lent = whole-stream-of (openCall f recipe .chain) (opened-chain f recipe h) calls lent
+
+module _ (f : PcmFormat) (recipe : List ℕ) (h : openCall f recipe .verdict ≡ Accepted) (calls : List Call) (lent : All Lent calls) where
+  -- the chain as opened, and as the calls left it
+  abbrev o : Pipeline
+  o = openCall f recipe .chain
+
+  abbrev c : Pipeline
+  c = runOf o calls .chain
+
+  whole : WholeStream o (streamOf o calls) (runOf o calls)
+  whole = whole-stream f recipe h calls lent
+
+  kinds-kept : kindsIn c ≡ kindsIn o
+  kinds-kept = ap kindsOf (whole .state) ∙ kinds-of-state (kindsIn o) (streamOf o calls)
+
+  few : c .count ≤ 8
+  few = omega (arith, whole .count, legal-parts o (opened-chain f recipe h .lawful) .few)
+
+  lawful : legal c ≡ true
+  unfolding legal
+  lawful =
+      let p = both (leb (o .count) 8) _ (opened-chain f recipe h .lawful) in
+      let q = both (formatAllowed (o .format)) _ (p .1) in
+      rw (le-leb (c .count) 8 few, whole .format, q .0, whole .state) (suited-still (o .format) (kindsIn o) (streamOf o calls) (suit o (opened-chain f recipe h)))
+
+  as-answered : openCall f recipe ≡ record { verdict = Accepted; chain = o }
+  as-answered = ap (λ v. let r : Opened = record { verdict = v; chain = o } in r) h
+
+  -- a chain writes itself back to the bytes it was opened from
+  pub writes-back : Bytes recipe → (out : List ℕ) → length recipe ≤ length out → writeCall c out ≡ record { answer = answer.Written (length recipe); out = written recipe out }
+  unfolding writeCall writeVerdict
+  writes-back b out room =
+      let kept : recipeOf (stagesOf c) ≡ recipe = recipe-of-kinds (stagesOf c) (stagesOf o) kinds-kept ∙ recipe-kept f recipe o as-answered b in
+      rw (le-leb (c .count) 8 few, kept, le-leb (length recipe) (length out) room)
+
+  -- `scratch_bytes` of the chain as opened: halves of half that figure each never give 3
+  pub scratch-still-suffices : (format : PcmFormat) (size figure short : ℕ) → scratchBytes o size ≡ scratch.Bytes figure → figure ≤ 2 * short
+      → numberOf (blockVerdict c format size short) ≡ 3 → ⊥
+  scratch-still-suffices format size figure short e room three =
+      scratch-suffices o c format size figure short (sym (whole .format)) (sym kinds-kept)
+      lawful e room three
+
+-- `blocks` grows with each accepted call; reset clears sound state, not counters
+pub blocks-counted : (f : PcmFormat) (recipe : List ℕ) → openCall f recipe .verdict ≡ Accepted → (calls : List Call) → All Lent calls
+    → runOf (openCall f recipe .chain) calls .chain .blocks ≡ heldCount (acceptedBlocks (openCall f recipe .chain) calls)
+unfolding heldCount
+blocks-counted f recipe h calls lent =
+    let w : FreshlyOpened (openCall f recipe .chain) = opened-chain f recipe h in
+    counted-calls (openCall f recipe .chain) w [] (record { chain = openCall f recipe .chain; joined = [] }) calls 0 (begun (openCall f recipe .chain) w) lent (open-counters f recipe .0)
+    ∙ ap heldCount (zero-add (acceptedBlocks (openCall f recipe .chain) calls))
+
+-- `empty_blocks` grows with each 'nothing yet'
+pub empty-blocks-counted : (f : PcmFormat) (recipe : List ℕ) (calls : List Call)
+    → runOf (openCall f recipe .chain) calls .chain .«empty_blocks» ≡ heldCount (nothingFrom (record { chain = openCall f recipe .chain; joined = [] }) calls)
+unfolding heldCount
+empty-blocks-counted f recipe calls =
+    nothing-calls (record { chain = openCall f recipe .chain; joined = [] }) calls 0 (open-counters f recipe .1) ∙ ap heldCount (zero-add (nothingFrom (record { chain = openCall f recipe .chain; joined = [] }) calls))
+
+-- ---- the stage with i stages before it delivers what its definition makes of what it has received
+pub delivered-of-received : (i : ℕ) (ks : List StageKind) (k : StageKind) (rest : List StageKind) (X : List Frame)
+    → drop i ks ≡ k ∷ rest → deliveredBy i ks X ≡ plainStage k (receivedBy i ks X)
+unfolding plainOut
+delivered-of-received zero [] k rest X e = cc
+delivered-of-received zero (j ∷ ks) k rest X e = ap (λ (h : StageKind). plainStage h X) (cc)
+delivered-of-received (suc i) [] k rest X e = cc
+delivered-of-received (suc i) (j ∷ ks) k rest X e = delivered-of-received i ks k rest (plainStage j X) e

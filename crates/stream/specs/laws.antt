@@ -1,0 +1,9 @@
+pub mod AfterCalls
+pub mod Afterwards
+pub mod Counters
+pub mod OneCall
+pub mod Opening
+pub mod PlainChain
+pub mod PlainRoom
+pub mod Resamplers
+pub mod WholeStream

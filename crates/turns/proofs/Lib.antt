@@ -1,0 +1,2 @@
+mod Playing
+mod Turning

@@ -1,0 +1,189 @@
+// One stage's turn in a block: stage i + 1 reads the block or the n bytes that the stage before wrote, and writes to half a where i is
+// even, else to b.
+ghost use mathlib.Core.Path.{_≡_};
+ghost use mathlib.Core.List.{List};
+ghost use Prim.Native.Nat.{ℕ, _*_, _/_, _%_, _≤_};
+ghost use lib.IntN.{natAbs};
+ghost use lib.ListN.{length};
+ghost use Rattle.pcm.specs.Frames.{framesOf, written};
+ghost use Rattle.filters.specs.Filters.{FilterBlock, FilteredBlock};
+ghost use Rattle.gain.specs.Gain.{scaledBytes};
+ghost use Rattle.channels.specs.Channels.{stereoBytes, monoBytes};
+ghost use Rattle.dc_block.specs.DcBlock.{dcTick};
+ghost use Rattle.biquad.specs.Recurrence.{biquadTick};
+ghost use Rattle.resample.specs.Resample.{resampled, stateAfter};
+ghost use Rattle.resample.specs.Stage.{Ready, Processed};
+ghost use Rattle.stage.specs.Rooms.{Serves};
+ghost use Rattle.turns.specs.Turns.{halves, evenSource, TurnAsks, TurnDoes, Takes};
+use biquad::Biquad;
+use dc_block::DcBlock;
+use filters::FilterMemory;
+use gain::Gain;
+use pcm::PcmFormat;
+use rates::LinearResampler;
+use rates::ResamplerState;
+use resample::Resampled;
+use stage::SoundMemory;
+use stage::Stage;
+use stage::StageKind;
+
+// A stage's memory after its turn, and how many bytes it delivered.
+pub struct Applied {
+    pub memory: SoundMemory,
+    pub len: usize,
+}
+
+// What a stage with an even i reads.
+fn even_source<'a>(i: usize, n: usize, block: &'a [u8], b: &'a [u8]) -> &'a [u8]
+    requires { ⌜ ((i ≡ 0 → ⊥) → n ≤ length (now b)) ⌝ }
+    ensures { λ r. ⌜ now r ≡ evenSource i n (now (block .entry)) (now (b .entry)) ⌝ }
+{
+    if i == 0 { block } else { &b[..n] }
+}
+
+fn gain_turn(g: Gain, i: usize, n: usize, block: &[u8], a: &mut [u8], b: &mut [u8])
+    requires { ⌜ TurnAsks i n (now block) (halves (now a) (now b)) (λ (source target : List ℕ). (length source % 2 ≡ 0) × (length source ≤ length target) × (natAbs (g .q15) ≤ 33554432)) ⌝ }
+    ensures { λ _. ⌜ TurnDoes i n (now (block .entry)) (halves (now (a .entry)) (now (b .entry))) (halves (now (a .exit)) (now (b .exit))) (λ (source before after : List ℕ). after ≡ written (scaledBytes (g .q15) source) before) ⌝ }
+{
+    if i % 2 == 0 {
+        g.process(even_source(i, n, block, b), a);
+        return;
+    }
+    g.process(&a[..n], b);
+}
+
+fn stereo_turn(i: usize, n: usize, block: &[u8], a: &mut [u8], b: &mut [u8])
+    requires { ⌜ TurnAsks i n (now block) (halves (now a) (now b)) (λ (source target : List ℕ). (length source % 2 ≡ 0) × (length source * 2 ≤ length target)) ⌝ }
+    ensures { λ _. ⌜ TurnDoes i n (now (block .entry)) (halves (now (a .entry)) (now (b .entry))) (halves (now (a .exit)) (now (b .exit))) (λ (source before after : List ℕ). after ≡ written (stereoBytes source) before) ⌝ }
+{
+    if i % 2 == 0 {
+        channels::mono_to_stereo(even_source(i, n, block, b), a);
+        return;
+    }
+    channels::mono_to_stereo(&a[..n], b);
+}
+
+fn mono_turn(i: usize, n: usize, block: &[u8], a: &mut [u8], b: &mut [u8])
+    requires { ⌜ TurnAsks i n (now block) (halves (now a) (now b)) (λ (source target : List ℕ). (length source % 4 ≡ 0) × (length source / 2 ≤ length target)) ⌝ }
+    ensures { λ _. ⌜ TurnDoes i n (now (block .entry)) (halves (now (a .entry)) (now (b .entry))) (halves (now (a .exit)) (now (b .exit))) (λ (source before after : List ℕ). after ≡ written (monoBytes source) before) ⌝ }
+{
+    if i % 2 == 0 {
+        channels::stereo_to_mono(even_source(i, n, block, b), a);
+        return;
+    }
+    channels::stereo_to_mono(&a[..n], b);
+}
+
+fn resample_turn(
+    r: LinearResampler,
+    state: ResamplerState,
+    channels: usize,
+    i: usize,
+    n: usize,
+    block: &[u8],
+    a: &mut [u8],
+    b: &mut [u8],
+) -> Resampled
+    requires { ⌜ TurnAsks i n (now block) (halves (now a) (now b)) (λ (source target : List ℕ). Ready channels (r .«in_r») (r .«out_r») (resampled r state (framesOf channels source)) source target) ⌝ }
+    ensures { λ t. ⌜ TurnDoes i n (now (block .entry)) (halves (now (a .entry)) (now (b .entry))) (halves (now (a .exit)) (now (b .exit))) (λ (source before after : List ℕ). Processed (resampled r state (framesOf channels source)) (stateAfter r state (framesOf channels source)) before after t) ⌝ }
+{
+    if i % 2 == 0 {
+        return resample::process(r, state, channels, even_source(i, n, block, b), a);
+    }
+    resample::process(r, state, channels, &a[..n], b)
+}
+
+fn dc_turn(
+    d: DcBlock,
+    filter: FilterMemory,
+    channels: usize,
+    i: usize,
+    n: usize,
+    block: &[u8],
+    a: &mut [u8],
+    b: &mut [u8],
+) -> FilterMemory
+    requires { ⌜ TurnAsks i n (now block) (halves (now a) (now b)) (FilterBlock channels) ⌝ }
+    ensures { λ m. ⌜ TurnDoes i n (now (block .entry)) (halves (now (a .entry)) (now (b .entry))) (halves (now (a .exit)) (now (b .exit))) (λ (source before after : List ℕ). FilteredBlock (dcTick (d .r)) channels filter source before after m) ⌝ }
+{
+    if i % 2 == 0 {
+        return d.process(even_source(i, n, block, b), a, channels, filter);
+    }
+    d.process(&a[..n], b, channels, filter)
+}
+
+fn biquad_turn(
+    f: Biquad,
+    filter: FilterMemory,
+    channels: usize,
+    i: usize,
+    n: usize,
+    block: &[u8],
+    a: &mut [u8],
+    b: &mut [u8],
+) -> FilterMemory
+    requires { ⌜ TurnAsks i n (now block) (halves (now a) (now b)) (FilterBlock channels) ⌝ }
+    ensures { λ m. ⌜ TurnDoes i n (now (block .entry)) (halves (now (a .entry)) (now (b .entry))) (halves (now (a .exit)) (now (b .exit))) (λ (source before after : List ℕ). FilteredBlock (biquadTick (f .coefficients)) channels filter source before after m) ⌝ }
+{
+    if i % 2 == 0 {
+        return f.process(even_source(i, n, block, b), a, channels, filter);
+    }
+    f.process(&a[..n], b, channels, filter)
+}
+
+// The turn of a stage of any kind: what it makes stands at the front of its half.
+pub fn turn(
+    format: PcmFormat,
+    s: Stage,
+    i: usize,
+    n: usize,
+    block: &[u8],
+    a: &mut [u8],
+    b: &mut [u8],
+) -> Applied
+    requires { ⌜ TurnAsks i n (now block) (halves (now a) (now b)) (Takes format s) ⌝ }
+    ensures { λ r. ⌜ TurnDoes i n (now (block .entry)) (halves (now (a .entry)) (now (b .entry))) (halves (now (a .exit)) (now (b .exit))) (λ (source before after : List ℕ). Serves format s (record { kind = s .kind; memory = r .memory }) (framesOf (format .channels) source) (r .len) before after) ⌝ }
+{
+    let kind = s.kind;
+    let memory = s.memory;
+    let filter = memory.filter;
+    let resampler = memory.resampler;
+    let channels = format.channels as usize;
+    match kind {
+        StageKind::Gain(g) => {
+            gain_turn(g, i, n, block, a, b);
+            Applied { memory, len: n }
+        }
+        StageKind::MonoToStereo => {
+            stereo_turn(i, n, block, a, b);
+            Applied { memory, len: n * 2 }
+        }
+        StageKind::StereoToMono => {
+            mono_turn(i, n, block, a, b);
+            Applied { memory, len: n / 2 }
+        }
+        StageKind::Resample(r) => {
+            let held = stage::held_samples(resampler);
+            let t = resample_turn(r, held, channels, i, n, block, a, b);
+            let resampler = t.state;
+            Applied {
+                memory: SoundMemory { filter, resampler },
+                len: t.frames * (channels * 2),
+            }
+        }
+        StageKind::DcBlock(d) => {
+            let filter = dc_turn(d, filter, channels, i, n, block, a, b);
+            Applied {
+                memory: SoundMemory { filter, resampler },
+                len: n,
+            }
+        }
+        StageKind::Biquad(f) => {
+            let filter = biquad_turn(f, filter, channels, i, n, block, a, b);
+            Applied {
+                memory: SoundMemory { filter, resampler },
+                len: n,
+            }
+        }
+    }
+}

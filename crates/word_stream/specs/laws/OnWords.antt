@@ -1,0 +1,33 @@
+-- Laws of the definitions in OnWords. Assumes nothing.
+use mathlib.Core.Path.{_≡_, refl, sym, ap, ap₂, _∙_}
+use mathlib.Core.List.{List, [], _++_}
+use Prim.Native.Nat.{ℕ}
+use Rattle.pipeline.specs.declared.Pipeline.{Pipeline}
+use Rattle.block.specs.declared.Half.the-variants as half
+use Rattle.block.specs.declared.Answer.{Answer}
+use Rattle.block.specs.declared.Answer.the-variants as answer
+use Rattle.block.specs.BlockCall.{Result, blockCall}
+use Rattle.stream.specs.Calls.{Call, callOutput, afterCalls}
+use Rattle.chain_words.specs.Layout.{chainOfWords}
+use Rattle.muzgleur.specs.Results.{blockOutcome}
+use Rattle.word_stream.specs.OnWords.{taken, OnWords, none, played, cleared}
+
+-- a program takes what the call's answer names
+taken-is : (w : List ℕ) (r : Result) → taken (blockOutcome w r) ≡ callOutput r
+taken-is w r = go (r .answer)
+  where
+    go : (x : Answer) → taken (blockOutcome w (record { chain = r .chain; answer = x; a = r .a; b = r .b })) ≡ callOutput (record { chain = r .chain; answer = x; a = r .a; b = r .b })
+    go (answer.Output f timestamp half.A len) = refl
+    go (answer.Output f timestamp half.B len) = refl
+    go answer.NothingYet = refl
+    go (answer.Refused e) = refl
+
+-- the chains that the words stand for, and the outputs, are those of the same calls on the chain
+pub words-as-run : {w joined w′ joined′ : List ℕ} {calls : List Call} → OnWords w joined calls w′ joined′
+    → afterCalls (record { chain = chainOfWords w; joined = joined }) calls ≡ record { chain = chainOfWords w′; joined = joined′ }
+words-as-run none = refl
+words-as-run {w} {joined} (played {calls = calls} format timestamp bytes a b o e h more) =
+    let r = blockCall (chainOfWords w) format timestamp bytes a b in
+    let t : taken o ≡ callOutput r = ap taken e ∙ taken-is w r in
+    ap₂ (λ (c : Pipeline) (x : List ℕ). afterCalls (record { chain = c; joined = joined ++ x }) calls) (sym h) (sym t) ∙ words-as-run more
+words-as-run (cleared {calls = calls} o e h more) = ap (λ (c : Pipeline). afterCalls (record { chain = c; joined = [] }) calls) (sym h) ∙ words-as-run more
