@@ -1,6 +1,6 @@
-//! Says where the static library of the proved block functions stands.
+//! Says where the static libraries of the proved functions stand.
 fn main() {
-    let here = std::env::var("CARGO_MANIFEST_DIR").unwrap();
-    println!("cargo:rerun-if-changed={here}/../target/staticlib/libkernels.a");
-    println!("cargo:rustc-link-search=native={here}/../target/staticlib");
+    let libraries = format!("{}/../target/staticlib", std::env::var("CARGO_MANIFEST_DIR").unwrap());
+    println!("cargo:rerun-if-changed={libraries}");
+    println!("cargo:rustc-link-search=native={libraries}");
 }

@@ -40,7 +40,7 @@ impl Chain {
         }
     }
 
-    fn recipe(self) -> Vec<u8> {
+    pub fn recipe(self) -> Vec<u8> {
         match self {
             Chain::Voice => voice(),
             Chain::FromStereo => [record(3, &[]), voice()].concat(),
