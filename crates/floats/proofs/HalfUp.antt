@@ -175,7 +175,7 @@ answer b j h k =
     ∙ ap (λ (y : ℕ). min y 33554432) (ap (λ (y : ℕ). halfUp ((b % 8388608 + 8388608) * 4) (2 ^ y)) (sym k) ∙ sym (shifted (b % 8388608 + 8388608) j)))
 
 -- ---- the sign, and the limits
-abbrev Signed : Float → Bool → Type 0
+abbrev pub Signed : Float → Bool → Type 0
 Signed nan s = ⊥
 Signed (inf t) s = t ≡ s
 Signed (fin t m e) s = t ≡ s

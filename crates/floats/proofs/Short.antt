@@ -24,7 +24,7 @@ size-at : (a n : ℕ) → 2 ^ a ≤ n → n < 2 ^ suc a → size n ≡ suc a
 size-at a n lo hi = le-antisymm (size-le n (suc a) hi) (lt-of-not-le (λ (g : size n ≤ a). lt-irrefl n (lt-of-lt-of-le (size-lt n) (le-trans (pow-mono g) lo))))
 
 -- ---- the pattern of q * 2 ^ k smallest values
-abbrev sign : Bool → ℕ
+abbrev pub sign : Bool → ℕ
 sign s = cond s 2147483648 0
 
 valued : (v : Float) (s : Bool) (n : ℕ) → HasValue v s n (2 ^ 149) → toBits binary32 v ≡ sign s + (size n - 24) * 8388608 + n / 2 ^ (size n - 24)

@@ -11,7 +11,7 @@ use lib.Ieee.{nearest}
 use lib.Ieee.Fits.{nearest-le}
 use lib.Ieee.Nearest.{closest, nearest-ge}
 
-abbrev Cmp : Ordering → ℕ → ℕ → Type 0
+abbrev pub Cmp : Ordering → ℕ → ℕ → Type 0
 Cmp Ordering·lt a b = a < b
 Cmp Ordering·eq a b = a ≡ b
 Cmp Ordering·gt a b = b < a

@@ -1,4 +1,4 @@
--- One turn of a gain's loop, whichever way it works out a sample. Assumes nothing.
+-- One turn of the loop over the samples of a block. Assumes nothing.
 use mathlib.Core.Path.{_≡_, refl, sym, ap, _∙_}
 use mathlib.Core.List.{List}
 use Prim.Native.Nat.{ℕ, _+_, _%_, _≤_, _<_}

@@ -1,8 +1,9 @@
 // `Gain`: fixed-point Q15 gain with rounding and saturation (elements/gain.rs).
 ghost use mathlib.Core.Path.{_≡_};
 ghost use Prim.Native.Nat.{_≤_, _%_};
-ghost use lib.IntN.{natAbs};
+ghost use lib.IntN.{pos, negℤ, natAbs, _-ℤ_, _*ℤ_};
 ghost use lib.ListN.{length};
+ghost use Rattle.pcm.specs.Integers.{floorDiv};
 ghost use Rattle.pcm.specs.Samples.{held16};
 ghost use Rattle.pcm.specs.Frames.{written};
 ghost use Rattle.gain.specs.Gain.{factorAllowed, heldFactor, linearFactor, scaled, scaledBytes, unity};
@@ -78,15 +79,7 @@ impl Gain {
             pcm::copy_front(input, out);
             return;
         }
-        if q < -65535 {
-            gain_wide(input, out, q);
-            return;
-        }
-        if q > 65535 {
-            gain_wide(input, out, q);
-            return;
-        }
-        gain_narrow(input, out, q);
+        gain_samples(input, out, q);
     }
 }
 
@@ -110,45 +103,70 @@ fn scale_full(x: i16, q: i32) -> i16
     sat16_wide(((x as i64) * (q as i64) + 16384) >> 15)
 }
 
-// One sample where the product fits 32 bits.
-fn scale_narrow(x: i16, q: i32) -> i16
-    requires { ⌜ natAbs q ≤ 65535 ⌝ }
-    ensures { λ r. ⌜ r ≡ scaled q x ⌝ }
+// The factor without its sign.
+fn magnitude(q: i32) -> u32
+    requires { ⌜ natAbs q ≤ 33554432 ⌝ }
+    ensures { λ r. ⌜ r ≡ natAbs q ⌝ }
 {
-    pcm::sat16(((x as i32) * q + 16384) >> 15)
+    if q < 0 {
+        return (0 - q) as u32;
+    }
+    q as u32
 }
 
-// One sample where it does not: q is h * 32768 + l, and each part's product fits.
-fn scale_wide(x: i16, q: i32) -> i16
+// x times the low 15 bits of k: the compiler sees that a product of 16-bit numbers will do.
+fn times(x: i16, k: u32) -> i32
+    ensures { λ r. ⌜ r ≡ x *ℤ pos (k % 32768) ⌝ }
+{
+    (x as i32) * ((k % 32768) as i32)
+}
+
+// floor((half - x * l) / 32,768), where l is the low 15 bits of p.
+fn low_part(x: i16, p: u32, half: i32) -> i32
+    requires { ⌜ natAbs half ≤ 16384 ⌝ }
+    ensures { λ r. ⌜ (r ≡ floorDiv (half -ℤ x *ℤ pos (p % 32768)) 32768) × (natAbs r ≤ 1073725440) ⌝ }
+{
+    (half - times(x, p)) >> 15
+}
+
+// One sample by the factor p, in two products that fit 32 bits: by its low 15 bits, and by the rest. -((16383 - a) >> 15) is
+// (a + 16384) >> 15; taken so and in this order, no turn of the compiled loop waits for the one before.
+fn scale_positive(x: i16, p: u32) -> i16
+    requires { ⌜ p ≤ 33554432 ⌝ }
+    ensures { λ r. ⌜ r ≡ scaled (pos p) x ⌝ }
+{
+    pcm::sat16(times(x, p / 32768) - low_part(x, p, 16383))
+}
+
+// One sample by the factor -p.
+fn scale_negative(x: i16, p: u32) -> i16
+    requires { ⌜ p ≤ 33554432 ⌝ }
+    ensures { λ r. ⌜ r ≡ scaled (negℤ (pos p)) x ⌝ }
+{
+    pcm::sat16(low_part(x, p, 16384) - times(x, p / 32768))
+}
+
+// One sample by a factor within the limit. The compiler takes the tests of the sign out of the loop.
+fn scale(x: i16, q: i32) -> i16
     requires { ⌜ natAbs q ≤ 33554432 ⌝ }
     ensures { λ r. ⌜ r ≡ scaled q x ⌝ }
 {
-    let h = q >> 15;
-    let l = q - h * 32768;
-    let w = x as i32;
-    pcm::sat16(w * h + ((w * l + 16384) >> 15))
-}
-
-fn gain_narrow(input: &[u8], out: &mut [u8], q: i32)
-    requires { ⌜ (length (now input) % 2 ≡ 0) × (length (now input) ≤ length (now out)) × (natAbs q ≤ 65535) ⌝ }
-    ensures { λ _. ⌜ now (out .exit) ≡ written (scaledBytes q (now (input .entry))) (now (out .entry)) ⌝ }
-{
-    let n = input.len();
-    let mut i: usize = 0;
-    while i < n {
-        pcm::put_i16(out, i, scale_narrow(pcm::get_i16(input, i), q));
-        i += 2;
+    let p = magnitude(q);
+    if q < 0 {
+        return scale_negative(x, p);
     }
+    scale_positive(x, p)
 }
 
-fn gain_wide(input: &[u8], out: &mut [u8], q: i32)
+// Each sample of input by the factor, at the front of out.
+fn gain_samples(input: &[u8], out: &mut [u8], q: i32)
     requires { ⌜ (length (now input) % 2 ≡ 0) × (length (now input) ≤ length (now out)) × (natAbs q ≤ 33554432) ⌝ }
     ensures { λ _. ⌜ now (out .exit) ≡ written (scaledBytes q (now (input .entry))) (now (out .entry)) ⌝ }
 {
     let n = input.len();
     let mut i: usize = 0;
     while i < n {
-        pcm::put_i16(out, i, scale_wide(pcm::get_i16(input, i), q));
+        pcm::put_i16(out, i, scale(pcm::get_i16(input, i), q));
         i += 2;
     }
 }

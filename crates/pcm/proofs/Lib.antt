@@ -1,2 +1,3 @@
+mod Spans
 mod Words
 mod Writing

@@ -55,7 +55,7 @@ pub +ℤ-*ℤ : (a b c : ℤ) → (a +ℤ b) *ℤ c ≡ a *ℤ c +ℤ b *ℤ c
     (λ k e. ap (λ z. z *ℤ c) (+ℤ-predℤ a k) ∙ predℤ-*ℤ (a +ℤ k) c ∙ ap (λ z. z -ℤ c) e ∙ +ℤ-assoc (a *ℤ c) (k *ℤ c) (negℤ c) ∙ ap (λ z. a *ℤ c +ℤ z) (sym (predℤ-*ℤ k c)))
     b
 
-neg-*ℤ : (b c : ℤ) → negℤ b *ℤ c ≡ negℤ (b *ℤ c)
+pub neg-*ℤ : (b c : ℤ) → negℤ b *ℤ c ≡ negℤ (b *ℤ c)
 neg-*ℤ (pos zero) c = zero-*ℤ c ∙ sym (ap negℤ (zero-*ℤ c))
 neg-*ℤ (pos (suc n)) (pos c) = refl
 neg-*ℤ (pos (suc n)) (negsuc c) = sym (negℤ-negℤ (pos (suc n * suc c)))

@@ -12,7 +12,6 @@ use Rattle.pcm.specs.laws.Samples.{all-by-index}
 use Rattle.pcm.specs.Frames.{written}
 use Rattle.gain.specs.Gain.{scaledBytes}
 use Rattle.gain.specs.Theorems.{unity-bytes}
-use Rattle.gain.proofs.Products.{near}
 use Rattle.gain.proofs.Gain.process.Statement.{statement}
 use Rattle.gain.proofs.Gain.process.Tie as tie
 
@@ -37,11 +36,4 @@ pub process-spec : {M : Type 1} → statement M
 process-spec = tie.close (tie.spec
     (λ c κs. search needs) (λ c. search needs) returns
     (λ c κs. search needs) (λ c. search needs)
-    (λ c. rw (handed (c .before .before .before .before .before .before .before .before .before)) at (c .before .before .gain-wide .ensures))
-    (λ c κs. search needs) (λ c. search needs)
-    (λ c. rw (handed (c .before .before .before .before .before .before .before .before .before .before)) at (c .before .before .gain-wide2 .ensures))
-    (λ c κs.
-    let s = c .before .before .before .before .before .before .before in
-    (s .pre .0, s .pre .1, near (toZ w32 (ofZ w32 (s .args .self .q15))) (c .before .before .if2 .left) (c .before .if3 .left)))
-    (λ c. search needs)
-    (λ c. rw (handed (c .before .before .before .before .before .before .before .before .before .before)) at (c .before .before .gain-narrow .ensures)))
+    (λ c. rw (handed (c .before .before .before .before .before .before .before .before)) at (c .before .before .gain-samples .ensures)))
