@@ -3,4 +3,10 @@ pub mod Bounds
 pub mod Chain
 pub mod Scratch
 pub mod Steps
+pub mod Turns
 pub mod Walking
+pub mod Asking
+pub mod Concluding
+pub mod Counts
+pub mod Reaching
+pub mod Stages

@@ -38,7 +38,7 @@ pub enum Scratch {
 }
 
 // One more, up to 2^64 - 1.
-fn count_up(n: u64) -> u64
+pub fn count_up(n: u64) -> u64
     ensures { λ r. ⌜ r ≡ countedUp n ⌝ }
 {
     if n == 18446744073709551615 {
@@ -48,7 +48,7 @@ fn count_up(n: u64) -> u64
 }
 
 // One more 'nothing yet', where no bytes came out.
-fn count_empty(n: u64, len: usize) -> u64
+pub fn count_empty(n: u64, len: usize) -> u64
     ensures { λ r. ⌜ r ≡ countedIf len n ⌝ }
 {
     if len == 0 {
@@ -72,7 +72,7 @@ fn last_half(count: usize) -> Half
 }
 
 // The answer of an accepted block of which so many bytes came out.
-fn answered(format: PcmFormat, timestamp: u64, count: usize, len: usize) -> Answer
+pub fn answered(format: PcmFormat, timestamp: u64, count: usize, len: usize) -> Answer
     ensures { λ r. ⌜ r ≡ outputAnswer format timestamp (lastHalf count) len ⌝ }
 {
     if len == 0 {
@@ -87,14 +87,14 @@ fn answered(format: PcmFormat, timestamp: u64, count: usize, len: usize) -> Answ
     }
 }
 
-fn shorter_of(a: usize, b: usize) -> usize
+pub fn shorter_of(a: usize, b: usize) -> usize
     ensures { λ r. ⌜ r ≡ shorterOf a b ⌝ }
 {
     if a <= b { a } else { b }
 }
 
 // No stages: the block is copied to a.
-fn copy_unstaged(count: usize, block: &[u8], a: &mut [u8])
+pub fn copy_unstaged(count: usize, block: &[u8], a: &mut [u8])
     requires { ⌜ (count ≡ 0 → length (now block) ≤ length (now a)) ⌝ }
     ensures { λ _. ⌜ now (a .exit) ≡ unstaged count (now (block .entry)) (now (a .entry)) ⌝ }
 {
@@ -104,7 +104,7 @@ fn copy_unstaged(count: usize, block: &[u8], a: &mut [u8])
 }
 
 // The stage after stage i, of `count`; none after one that delivers 0 bytes.
-fn next_stage(i: usize, count: usize, len: usize) -> usize
+pub fn next_stage(i: usize, count: usize, len: usize) -> usize
     requires { ⌜ i < count ⌝ }
     ensures { λ r. ⌜ r ≡ nextStage i count len ⌝ }
 {

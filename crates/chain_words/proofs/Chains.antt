@@ -1,4 +1,4 @@
--- Laws of Chains.
+-- Laws of whole chains: words that were written for a chain stand for it. Assumes nothing.
 use mathlib.Core.Path.{_≡_, refl, sym, ap, _∙_}
 use mathlib.Core.Bool.{Bool, true, _&&_}
 use mathlib.Core.List.{List, [], _∷_, _++_, append-assoc, append-nil}
@@ -6,14 +6,17 @@ use Prim.Native.Nat.{ℕ, zero, suc, _+_, _-_, _*_, _≤_, _<_}
 use native.Mathlib.Numerals.{add-one}
 use native.Mathlib.Omega.{arith}
 use lib.ListN.{length, getD, take}
+use mir.Syntax.{w32}
+use mir.Val.{Fits}
 use lib.Seq.{getD-drop}
 use Rattle.pcm.specs.Samples.{All}
-use Rattle.stage.specs.declared.StageKind.the-variants as kind
 use Rattle.stage.specs.declared.Stage.{Stage}
 use Rattle.recipe.specs.Records.{known}
 use Rattle.pipeline.specs.Opening.{unusedStage}
-use Rattle.chain_words.specs.Layout.{stageWords, stagesWords, word, stageOf, kindOf, stateOf, placeOf, stagesFrom, kindsKnown, noChain}
-use Rattle.chain_words.specs.Storable.{SmallKind, Small}
+use Rattle.stage_words.specs.Layout.{stageWords, word}
+use Rattle.stage_words.specs.Storable.{Small}
+use Rattle.stage_words.specs.laws.Reading.{small-stage}
+use Rattle.chain_words.specs.Layout.{stagesWords, placeOf, stagesFrom, kindsKnown, noChain}
 
 -- ---- the stages one at a time
 pub stages-next : (l : List Stage) (i : ℕ) (d : Stage) → i < length l → stagesWords (take (i + 1) l) ≡ stagesWords (take i l) ++ stageWords (getD l i d)
@@ -38,37 +41,12 @@ unfolding kindsKnown
 kinds-end w i n h = let m : n - i ≡ 0 = omega arith in rw m
 
 -- ---- a chain of words is small
-module _ (w : List ℕ) (h : (i : ℕ) → word w i < 4294967296) where
-  small-kind : (n : ℕ) → SmallKind (kindOf w n)
-  unfolding kindOf
-  small-kind zero = tt
-  small-kind (suc zero) = tt
-  small-kind (suc (suc zero)) = tt
-  small-kind (suc (suc (suc zero))) = tt
-  small-kind (suc (suc (suc (suc zero)))) = (h 3, h 4)
-  small-kind (suc (suc (suc (suc (suc zero))))) = tt
-  small-kind (suc (suc (suc (suc (suc (suc zero)))))) = refl
-  small-kind (suc (suc (suc (suc (suc (suc (suc n))))))) = tt
+pub place-small : (w : List ℕ) (i : ℕ) → ((j : ℕ) → Fits w32 (word w j)) → (j : ℕ) → word (placeOf w i) j < 4294967296
+place-small w i h j = rw (getD-drop (8 + 18 * i) w j 0) (h (8 + 18 * i + j) .fits)
 
-  pub small-stage : Small (stageOf w)
-  unfolding stateOf
-  small-stage = record { kind = small-kind (word w 0); phase = h 16 }
-
-pub small-stages : (w : List ℕ) → ((i : ℕ) → word w i < 4294967296) → (i n : ℕ) → All Small (stagesFrom w i n)
+pub small-stages : (w : List ℕ) → ((i : ℕ) → Fits w32 (word w i)) → (i n : ℕ) → All Small (stagesFrom w i n)
 small-stages w h i zero = tt
-small-stages w h i (suc n) = (small-stage (placeOf w i) (λ j. rw (getD-drop (8 + 18 * i) w j 0) (h (8 + 18 * i + j))), small-stages w h (suc i) n)
-
--- the kind of a number that is none, or mono to stereo's
-pub other-kind : (w : List ℕ) (n : ℕ) → (n ≡ 1 → ⊥) → (n ≡ 3 → ⊥) → (n ≡ 4 → ⊥) → (n ≡ 5 → ⊥) → (n ≡ 6 → ⊥) → kindOf w n ≡ kind.MonoToStereo
-unfolding kindOf
-other-kind w zero h1 h3 h4 h5 h6 = refl
-other-kind w (suc zero) h1 h3 h4 h5 h6 = absurd (h1 refl)
-other-kind w (suc (suc zero)) h1 h3 h4 h5 h6 = refl
-other-kind w (suc (suc (suc zero))) h1 h3 h4 h5 h6 = absurd (h3 refl)
-other-kind w (suc (suc (suc (suc zero)))) h1 h3 h4 h5 h6 = absurd (h4 refl)
-other-kind w (suc (suc (suc (suc (suc zero))))) h1 h3 h4 h5 h6 = absurd (h5 refl)
-other-kind w (suc (suc (suc (suc (suc (suc zero)))))) h1 h3 h4 h5 h6 = absurd (h6 refl)
-other-kind w (suc (suc (suc (suc (suc (suc (suc n))))))) h1 h3 h4 h5 h6 = refl
+small-stages w h i (suc n) = (small-stage (placeOf w i) (place-small w i h), small-stages w h (suc i) n)
 
 pub no-chain-small : All Small (noChain .stages)
 no-chain-small =

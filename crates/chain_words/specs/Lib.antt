@@ -1,5 +1,5 @@
-pub mod Theorems
 pub mod Kept
 pub mod Layout
 pub mod Storable
+pub mod Theorems
 pub mod laws

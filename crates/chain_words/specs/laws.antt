@@ -1,5 +1,3 @@
 pub mod Chains
-pub mod Kept
+pub mod Keeping
 pub mod Places
-pub mod ReadBack
-pub mod Storable

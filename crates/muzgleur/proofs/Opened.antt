@@ -1,4 +1,4 @@
--- Laws of Opened.
+-- Laws: a chain that was opened can be kept in words. Assumes nothing.
 use mathlib.Core.Path.{_≡_, refl, _∙_, subst}
 use mathlib.Core.Bool.{Bool, true, false}
 use mathlib.Core.List.{List, [], _∷_}
@@ -26,8 +26,9 @@ use Rattle.opening.specs.Opening.{settingsAllowed, stageVerdict, stageKindOf}
 use Rattle.pipeline.specs.Opening.{Stages, opened, refused, asked, front, nextKind, afterNext, openStages, unusedStage, chainOf, openedOf, openCall}
 use Rattle.pipeline.specs.laws.Opening.{stage-fits}
 use Rattle.pipeline.specs.laws.RoundTrip.{opened-few}
+use Rattle.stage_words.specs.Storable.{Held, SmallKind, Small}
 use Rattle.chain_words.specs.Layout.{wordsOf, chainOfWords}
-use Rattle.chain_words.specs.Storable.{Held, SmallKind, Small, Storable}
+use Rattle.chain_words.specs.Storable.{Storable}
 use Rattle.chain_words.specs.Theorems.{written-stands}
 
 -- ---- one stage

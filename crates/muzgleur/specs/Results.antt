@@ -1,13 +1,12 @@
 -- What the exported calls answer and leave in the words: number and values for each case of the library's answers (document 01, 'The questions'). Definitions only.
 use mathlib.Core.Bool.{Bool, cond}
 use mathlib.Core.List.{List}
-use Prim.Native.Nat.{ℕ, _≤_}
+use Prim.Native.Nat.{ℕ}
 use lib.Dec.{leb}
 use lib.ListN.{length}
 use Rattle.pcm.specs.declared.PcmFormat.{PcmFormat}
 use Rattle.pcm.specs.declared.Verdict.{Verdict}
 use Rattle.pcm.specs.declared.Verdict.the-variants.{Accepted, Refused}
-use Rattle.pcm.specs.Samples.{All}
 use Rattle.pcm.specs.Frames.{written}
 use Rattle.pcm.specs.Refusals.{refusal}
 use Rattle.pipeline.specs.declared.Pipeline.{Pipeline}
@@ -23,9 +22,8 @@ use Rattle.block.specs.declared.Answer.the-variants as answer
 use Rattle.block.specs.declared.Scratch.{Scratch}
 use Rattle.block.specs.declared.Scratch.the-variants as scratch
 use Rattle.block.specs.BlockCall.{Result}
-use Rattle.chain_words.specs.Layout.{wordsOf, stands, chainOfWords}
-use Rattle.chain_words.specs.Storable.{HeldMemory}
 use Rattle.chain_words.specs.Kept.{walked}
+use Rattle.chain_words.specs.Layout.{wordsOf, stands, chainOfWords}
 use Rattle.muzgleur.specs.declared.BlockResult.{BlockResult}
 use Rattle.muzgleur.specs.declared.CounterResult.{CounterResult}
 use Rattle.muzgleur.specs.declared.Format.{Format}
@@ -62,38 +60,21 @@ blockResult (answer.Output f timestamp side len) =
 blockResult answer.NothingYet = silent 0 2 0
 blockResult (answer.Refused e) = silent (refusal e .number) 0 (refusal e .needed)
 
+-- the answer, the chain that the words stand for, and both halves afterwards
+pub record BlockOutcome : Type 0 where
+  pub result : BlockResult
+  pub chain : Pipeline
+  pub a : List ℕ
+  pub b : List ℕ
+
+abbrev pub blockOutcome : Result → BlockOutcome
+blockOutcome r = record { result = blockResult (r .answer); chain = r .chain; a = r .a; b = r .b }
+
+-- ---- the other calls
 -- the memories of the stages in use and both counters to their words; every other word stays
 abbrev pub soundWords : List ℕ → Pipeline → List ℕ
 soundWords w c = walked w (stagesOf c) (c .blocks) (c .«empty_blocks»)
 
--- a refusal alters none
-abbrev pub wordsAfter : List ℕ → Answer → Pipeline → List ℕ
-wordsAfter w (answer.Output f timestamp side len) c = soundWords w c
-wordsAfter w answer.NothingYet c = soundWords w c
-wordsAfter w (answer.Refused e) c = w
-
--- what is known of a chain that was not refused: at most eight stages, whose memories are machine numbers
-abbrev pub FewAfter : Answer → Pipeline → Type 0
-FewAfter (answer.Output f timestamp side len) c = c .count ≤ 8
-FewAfter answer.NothingYet c = c .count ≤ 8
-FewAfter (answer.Refused e) c = Unit {0}
-
-abbrev pub HeldAfter : Answer → Pipeline → Type 0
-HeldAfter (answer.Output f timestamp side len) c = All HeldMemory (stagesOf c)
-HeldAfter answer.NothingYet c = All HeldMemory (stagesOf c)
-HeldAfter (answer.Refused e) c = Unit {0}
-
--- the answer, the words and both halves afterwards
-pub record BlockOutcome : Type 0 where
-  pub result : BlockResult
-  pub words : List ℕ
-  pub a : List ℕ
-  pub b : List ℕ
-
-abbrev pub blockOutcome : List ℕ → Result → BlockOutcome
-blockOutcome w r = record { result = blockResult (r .answer); words = wordsAfter w (r .answer) (r .chain); a = r .a; b = r .b }
-
--- ---- the other calls
 -- words that stand for no chain are 1, and stay
 abbrev pub resetOutcome : List ℕ → Outcome
 resetOutcome w = cond (stands w) (record { number = 0; words = soundWords w (resetCall (chainOfWords w)) }) (record { number = 1; words = w })

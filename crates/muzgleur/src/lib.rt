@@ -1,13 +1,12 @@
 // The static library for programs in C and Rust: the proved calls on a chain that the caller keeps as plain words. None requires anything of its caller.
 ghost use mathlib.Core.Path.{_≡_};
-ghost use Prim.Native.Nat.{_≤_};
-ghost use lib.ListN.{length};
 ghost use Rattle.pipeline.specs.Opening.{openCall};
 ghost use Rattle.pipeline.specs.Reset.{outputFormat, resetCall};
 ghost use Rattle.pipeline.specs.WritingBack.{writeCall};
 ghost use Rattle.block.specs.BlockCall.{blockCall, scratchBytes};
 ghost use Rattle.chain_words.specs.Layout.{stands, chainOfWords};
-ghost use Rattle.muzgleur.specs.Results.{openOutcome, halfNumber, silent, blockResult, blockOutcome, FewAfter, HeldAfter, wordsAfter, resetOutcome, counterResult, formatOf, scratchResult, writeResult};
+ghost use Rattle.word_block.specs.Words.{SettingsStay};
+ghost use Rattle.muzgleur.specs.Results.{openOutcome, halfNumber, silent, blockResult, blockOutcome, resetOutcome, counterResult, formatOf, scratchResult, writeResult};
 use block::Answer;
 use block::Half;
 use block::Scratch;
@@ -127,25 +126,8 @@ fn block_result(answer: Answer) -> BlockResult
     }
 }
 
-// What an accepted call alters, to the words; a refusal alters none.
-fn keep(chain: &mut [u32], answer: Answer, after: Pipeline)
-    requires { ⌜ (152 ≤ length (now chain)) × FewAfter answer after ⌝ }
-    ensures { λ _. ⌜ (now (chain .exit) ≡ wordsAfter (now (chain .entry)) answer after) × HeldAfter answer after ⌝ }
-{
-    match answer {
-        Answer::Output {
-            format: _,
-            timestamp: _,
-            half: _,
-            len: _,
-        } => chain_words::put_sound(chain, after),
-        Answer::NothingYet => chain_words::put_sound(chain, after),
-        Answer::Refused(_) => {}
-    }
-}
-
-// The output, where there is one, stands at the front of the half named, and the words stand for the chain afterwards. A refusal
-// alters nothing. Words that stand for no chain, too few among them, are 1.
+// The output, where there is one, stands at the front of the half named, and the words stand for the chain afterwards; only counters
+// and memories are altered. A refusal alters nothing. Words that stand for no chain, too few among them, are 1.
 #[no_mangle]
 pub extern "C" fn muzgleur_block(
     chain: &mut [u32],
@@ -156,18 +138,11 @@ pub extern "C" fn muzgleur_block(
     a: &mut [u8],
     b: &mut [u8],
 ) -> BlockResult
-    ensures all { λ r. ⌜ record { result = r; words = now (chain .exit); a = now (a .exit); b = now (b .exit) } ≡ blockOutcome (now (chain .entry)) (blockCall (chainOfWords (now (chain .entry))) (record { rate = rate; channels = channels }) timestamp (now (sound .entry)) (now (a .entry)) (now (b .entry))) ⌝ }
-    ensures chain { λ _. ⌜ chainOfWords (now (chain .exit)) ≡ blockCall (chainOfWords (now (chain .entry))) (record { rate = rate; channels = channels }) timestamp (now (sound .entry)) (now (a .entry)) (now (b .entry)) .chain ⌝ }
+    ensures all { λ r. ⌜ record { result = r; chain = chainOfWords (now (chain .exit)); a = now (a .exit); b = now (b .exit) } ≡ blockOutcome (blockCall (chainOfWords (now (chain .entry))) (record { rate = rate; channels = channels }) timestamp (now (sound .entry)) (now (a .entry)) (now (b .entry))) ⌝ }
+    ensures words { λ r. ⌜ (r .outcome ≡ 0 → now (chain .exit) ≡ now (chain .entry)) × SettingsStay (now (chain .entry)) (now (chain .exit)) ⌝ }
 {
-    if chain.len() < chain_words::CHAIN_WORDS {
-        return silent(1, 0, 0);
-    }
-    let own = chain_words::chain_of(chain);
     let format = PcmFormat { rate, channels };
-    let done = block::process(own, format, timestamp, sound, a, b);
-    let after = done.chain;
-    let answer = done.answer;
-    keep(chain, answer, after);
+    let answer = word_block::process(chain, format, timestamp, sound, a, b);
     block_result(answer)
 }
 
@@ -212,12 +187,12 @@ pub extern "C" fn muzgleur_output_format(chain: &[u32]) -> Format
     }
 }
 
-// Bytes of both halves together that any block of `size` bytes finds enough.
+// Twice the bytes of a half: two equal halves of half the figure each are enough for any block of `size` bytes, in any state.
 #[no_mangle]
 pub extern "C" fn muzgleur_scratch_bytes(chain: &[u32], size: usize) -> ScratchResult
     ensures { λ r. ⌜ r ≡ scratchResult (scratchBytes (chainOfWords (now (chain .entry))) size) ⌝ }
 {
-    let answer = block::scratch_bytes(chain_words::chain_of(chain), size);
+    let answer = word_block::scratch_bytes(chain, size);
     match answer {
         Scratch::Bytes(value) => ScratchResult { number: 0, value },
         Scratch::Refused(e) => ScratchResult {

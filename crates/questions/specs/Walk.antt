@@ -2,6 +2,7 @@
 use mathlib.Core.Bool.{Bool, cond, _&&_, true, false}
 use Prim.Native.Nat.{ℕ, _*_, _%_, _/_}
 use lib.Dec.{eqb, leb, ltb}
+use mathlib.Core.List.{List, [], _∷_}
 use Rattle.pcm.specs.declared.PcmFormat.{PcmFormat}
 use Rattle.pcm.specs.declared.Error.the-variants.{InvalidFormat, Unsupported, BufferTooSmall, InvalidGeometry, TooManyFrames}
 use Rattle.pcm.specs.declared.Verdict.{Verdict}
@@ -89,6 +90,11 @@ begun f count size shorter = record {
   largest = copyRoom count (blockFrames f size * (f .channels * 2));
   short = firstShort shorter 0 (copyRoom count (blockFrames f size * (f .channels * 2)));
 }
+
+-- along the stages, in chain order
+unfoldable pub walked : Question → ℕ → Walk → List Stage → Walk
+walked q shorter w [] = w
+walked q shorter w (s ∷ rest) = walked q shorter (stepped q shorter w s) rest
 
 -- ---- what the walk answers
 -- Is every stage legal? else 1. Then the size

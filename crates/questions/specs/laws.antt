@@ -1,3 +1,2 @@
 pub mod Bounds
-pub mod Walk
 pub mod Walking

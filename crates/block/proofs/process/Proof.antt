@@ -22,15 +22,12 @@ use Rattle.pipeline.specs.WritingBack.{stagesOf}
 use Rattle.block.specs.laws.Steps.{accepts}
 use Rattle.turns.specs.Turns.{halves}
 use Rattle.block.specs.Turns.{Accepts, nextStage}
-use Rattle.questions.specs.Walk.{headLegal, begun, verdictFrom}
-use Rattle.questions.specs.laws.Walk.{walked}
-use Rattle.block.proofs.Walking.{verdict-is}
+use Rattle.questions.specs.Walk.{headLegal, begun, walked, verdictFrom}
 use Rattle.pcm.specs.laws.Lists.{unmapped}
-use Rattle.block.proofs.Counts.{no-stages, some-stages, not-none}
-use Rattle.block.proofs.Asking.{Asks, head-parts, asks-first, asks-fits, asks-next, asks-end}
-use Rattle.block.proofs.Reaching.{shorter-a}
-use Rattle.block.proofs.Stages.{withStages, Plays, turn-asks, stored, stayed, at-end, plays-first, copy-room, length-first}
-use Rattle.block.proofs.Concluding.{head-refused, refused-is, concludes}
+use Rattle.block.specs.laws.Asking.{Asks, head-parts, asks-first, asks-fits, asks-next, asks-end, walk-verdict}
+use Rattle.block.specs.laws.Reaching.{shorter-a}
+use Rattle.block.specs.laws.Stages.{next-less, withStages, Plays, turn-asks, stored, stayed, at-end, plays-first, copy-room, length-first}
+use Rattle.block.specs.laws.Concluding.{head-refused, refused-is, concludes}
 use Rattle.block.proofs.process.Statement.{statement}
 use Rattle.block.proofs.process.Tie as tie
 
@@ -45,22 +42,6 @@ Inv-loop2 timestamp block a₀ b₀ chain₀ count size shorter i₀ reaching₀
 
 abbrev μ-loop2 : tie.MeasureT-loop2
 μ-loop2 timestamp block a₀ b₀ chain₀ count size shorter i₀ reaching₀ len₀ a b chain i reaching len = count - i
-
-next-less : (i count len n : ℕ) → i < count → n ≡ nextStage i count len → count - n < count - i
-next-less i count len n h e = rw e (go (eqb len 0))
-  where
-    go : (t : Bool) → count - cond t count (i + 1) < count - i
-    go true = omega arith
-    go false = omega arith
-
--- the verdict of the whole walk is the definition's
-found : (c : Pipeline) (format : PcmFormat) (block a b : List ℕ) (short : ℕ) (start w : Walk) (v : Verdict) → headLegal (c .format) (c .count) ≡ true → length (c .stages) ≡ 8
-    → short ≡ shorter a b → start ≡ begun (c .format) (c .count) (length block) short → w ≡ walked Block short start (stagesOf c) → v ≡ verdictFrom (c .format) format (length block) w
-    → blockVerdict c format (length block) (shorter a b) ≡ v
-found c format block a b short start w v h len s e m k =
-    ap (blockVerdict c format (length block)) (sym s)
-    ∙ sym (k ∙ ap (verdictFrom (c .format) format (length block)) (m ∙ ap (λ (x : Walk). walked Block short x (stagesOf c)) e)
-    ∙ verdict-is c format (length block) short h (no-stages c) (λ z. not-none (stagesOf c) (some-stages c (head-parts (c .format) (c .count) h .few) z len)))
 
 -- ---- where the questions begin
 module _ (c : tie.After-begun Inv-loop μ-loop Inv-loop2 μ-loop2) where
@@ -83,7 +64,8 @@ asked-all v =
     let l = v .before .before in
     let b = l .before in
     let a = s b .args in
-    found (a .t1) (a .format) (a .block .now) (a .a .now) (a .b .now) _ _ _ _ (head b) (eight b) (b .before .shorter-of .ensures) (b .begun .ensures)
+    ap (blockVerdict (a .t1) (a .format) (length (a .block .now))) (sym (b .before .shorter-of .ensures))
+    ∙ walk-verdict (a .t1) (a .format) (length (a .block .now)) _ _ _ _ (head b) (eight b) (b .begun .ensures)
     (asks-end _ _ _ _ _ _ _ _ (l .loop .inv) (v .before .loop-test .left)) (v .verdict .ensures)
 
 -- ---- where the block is accepted

@@ -11,11 +11,10 @@ use Rattle.questions.specs.declared.Question.the-variants.{AnyState}
 use Rattle.questions.specs.declared.Walk.{Walk}
 use Rattle.pipeline.specs.WritingBack.{stagesOf}
 use Rattle.block.specs.BlockCall.{scratchAnswer, scratchBytes}
-use Rattle.questions.specs.Walk.{headLegal, sizedFrom, begun}
-use Rattle.questions.specs.laws.Walk.{walked}
-use Rattle.block.proofs.Walking.{scratch-is, scratch-refused}
+use Rattle.questions.specs.Walk.{headLegal, sizedFrom, begun, walked}
+use Rattle.block.specs.laws.Walking.{scratch-is, scratch-refused}
 use Rattle.pcm.specs.laws.Lists.{unmapped}
-use Rattle.block.proofs.Asking.{Asks, head-parts, asks-first, asks-fits, asks-next, asks-end}
+use Rattle.block.specs.laws.Asking.{Asks, head-parts, asks-first, asks-fits, asks-next, asks-end}
 use Rattle.block.proofs.scratch_bytes.Statement.{statement}
 use Rattle.block.proofs.scratch_bytes.Tie as tie
 

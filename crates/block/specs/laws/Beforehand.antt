@@ -23,8 +23,7 @@ use Rattle.questions.specs.declared.Walk.{Walk}
 use Rattle.block.specs.Chain.{chainOut}
 use Rattle.pipeline.specs.Reset.{formatLeaving}
 use Rattle.block.specs.BlockCall.{suited}
-use Rattle.questions.specs.Walk.{larger, dueOf, firstShort, roomOf, further, illegal, stepped, begun, copyRoom, blockFrames}
-use Rattle.questions.specs.laws.Walk.{walked}
+use Rattle.questions.specs.Walk.{larger, dueOf, firstShort, roomOf, further, illegal, stepped, begun, walked, copyRoom, blockFrames}
 use Rattle.block.specs.laws.Bounds.{suited-rest, larger-left, larger-right, larger-least}
 use Rattle.block.specs.laws.Walking.{further-legal, further-format, walked-cons, walked-none, short-before, room-held, room-not-held, due-none, due-some}
 

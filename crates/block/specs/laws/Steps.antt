@@ -1,11 +1,14 @@
 -- Laws of Steps.
-use mathlib.Core.Path.{_≡_}
+use mathlib.Core.Path.{_≡_, refl, sym, ap₂, _∙_}
 use mathlib.Core.Bool.{true, false}
-use mathlib.Core.List.{List, _∷_}
-use Prim.Native.Nat.{ℕ, _*_, _/_, _≤_, _<_}
+use mathlib.Core.List.{List, [], _∷_}
+use Prim.Native.Nat.{ℕ, _+_, _*_, _/_, _≤_, _<_}
+use native.Mathlib.Numerals.{add-one}
+use native.Mathlib.Omega.{arith}
 use borrow.Author.Tests.{le-leb, lt-leb, eq-eqb, ne-eqb, leb-true, ltb-true, eqb-true}
 use lib.Dec.{leb, ltb}
-use lib.ListN.{length}
+use lib.ListN.{length, take, drop, getD, drop-of-length-le, length-take}
+use lib.Seq.{drop-cons, getD-take, length-take-le}
 use Rattle.pcm.specs.declared.PcmFormat.{PcmFormat}
 use Rattle.pcm.specs.declared.Error.the-variants.{InvalidFormat, Unsupported, BufferTooSmall, InvalidGeometry, TooManyFrames}
 use Rattle.pcm.specs.declared.Verdict.the-variants.{Accepted, Refused}
@@ -18,6 +21,19 @@ use Rattle.block.specs.BlockCall.{legal, suited, roomsVerdict, blockVerd
 use Rattle.questions.specs.Walk.{wholeFrames, sameFormat}
 use Rattle.block.specs.Turns.{Accepts}
 use Rattle.pcm.specs.laws.Refusals.{ask-yes}
+
+-- ---- the stages from stage i + 1 on
+pub stage-at : {A : Type 0} (l : List A) (count i : ℕ) (d : A) → i < count → count ≤ length l → drop i (take count l) ≡ getD l i d ∷ drop (i + 1) (take count l)
+stage-at {A} l count i d h k =
+    let e : length (take count l) ≡ count = length-take-le count l k in
+    drop-cons (take count l) i d (omega arith) ∙ ap₂ (λ (x : A) (n : ℕ). x ∷ drop n (take count l)) (getD-take count l i d h) (sym (add-one i))
+
+pub stages-end : {A : Type 0} (l : List A) (count i : ℕ) → count ≤ i → drop i (take count l) ≡ []
+stages-end l count i h = drop-of-length-le (take count l) {i = i} (simp length-take (omega arith))
+
+pub drop-zero : {A : Type 0} (l : List A) → drop 0 l ≡ l
+drop-zero [] = refl
+drop-zero (x ∷ l) = refl
 
 -- to all of them
 pub accepts : (c : Pipeline) (format : PcmFormat) (block a b : List ℕ) → blockVerdict c format (length block) (shorter a b) ≡ Accepted → Accepts c block a b

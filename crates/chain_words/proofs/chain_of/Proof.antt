@@ -1,9 +1,9 @@
 -- `chain_words::chain_of` meets its contract. Assumes nothing.
 use borrow.Author.Needs.{needs}
 use mathlib.Core.Path.{refl, sym, _∙_}
+use Rattle.chain_words.specs.Layout.{chainOfWords}
 use Rattle.chain_words.proofs.Chains.{no-chain-small}
 use Rattle.chain_words.specs.laws.Chains.{stands-long}
-use Rattle.chain_words.specs.Layout.{chainOfWords}
 use Rattle.chain_words.proofs.chain_of.Statement.{statement}
 use Rattle.chain_words.proofs.chain_of.Tie as tie
 

@@ -9,14 +9,15 @@ use lib.Seq.{sets, length-sets, length-take-le, take-all}
 use Rattle.pcm.specs.Samples.{All}
 use Rattle.pcm.specs.Frames.{written}
 use Rattle.stage.specs.declared.Stage.{Stage}
-use Rattle.chain_words.specs.Layout.{stageWords, headWords, stagesWords, wordsOf}
-use Rattle.chain_words.specs.Storable.{Held}
-use Rattle.chain_words.specs.laws.Places.{sets-append}
-use Rattle.chain_words.specs.laws.Chains.{length-head, length-stages}
-use Rattle.chain_words.proofs.Chains.{stages-next, no-stages}
+use Rattle.stage_words.specs.Layout.{stageWords}
+use Rattle.stage_words.specs.Storable.{Held}
+use Rattle.stage_words.specs.laws.Runs.{sets-append}
+use Rattle.chain_words.specs.Layout.{headWords, stagesWords, wordsOf}
 use Rattle.stage.specs.laws.Places.{noStage}
 use Rattle.pcm.specs.laws.Lists.{unmapped}
 use Rattle.chain_words.proofs.Parts.{all-next, whole-run}
+use Rattle.chain_words.specs.laws.Chains.{length-head, length-stages}
+use Rattle.chain_words.proofs.Chains.{stages-next, no-stages}
 use Rattle.chain_words.proofs.put_chain.Statement.{statement}
 use Rattle.chain_words.proofs.put_chain.Tie as tie
 

@@ -8,14 +8,14 @@ use native.Mathlib.Omega.{arith}
 use lib.ListN.{length, take, getD}
 use lib.Seq.{sets, length-take-le, take-suc}
 use Rattle.pcm.specs.Samples.{All}
-use Rattle.chain_words.specs.Layout.{memoryWords}
-use Rattle.chain_words.specs.Storable.{HeldMemory}
+use Rattle.stage_words.specs.Layout.{memoryWords}
+use Rattle.stage_words.specs.Storable.{HeldMemory}
 use Rattle.chain_words.specs.Kept.{keptWords}
-use Rattle.chain_words.proofs.Kept.{kept-next, kept-none}
-use Rattle.chain_words.specs.laws.Kept.{length-kept}
 use Rattle.stage.specs.laws.Places.{noStage}
 use Rattle.pcm.specs.laws.Lists.{unmapped}
 use Rattle.chain_words.proofs.Parts.{all-next}
+use Rattle.chain_words.proofs.Keeping.{kept-next, kept-none}
+use Rattle.chain_words.specs.laws.Keeping.{length-kept}
 use Rattle.chain_words.proofs.put_memories.Statement.{statement}
 use Rattle.chain_words.proofs.put_memories.Tie as tie
 

@@ -1,7 +1,7 @@
 -- `chain_words::put_memory_at` meets its contract. Assumes nothing.
 use borrow.Author.Needs.{needs}
 use Prim.Native.Nat.{_+_, _*_}
-use Rattle.chain_words.specs.Layout.{memoryWords}
+use Rattle.stage_words.specs.Layout.{memoryWords}
 use Rattle.chain_words.proofs.Parts.{part-run}
 use Rattle.chain_words.proofs.put_memory_at.Statement.{statement}
 use Rattle.chain_words.proofs.put_memory_at.Tie as tie

@@ -4,7 +4,7 @@ use mathlib.Core.Path.{_≡_, ap, _∙_}
 use Prim.Native.Nat.{ℕ, _+_, _*_}
 use native.Mathlib.Omega.{arith}
 use lib.Seq.{sets}
-use Rattle.chain_words.specs.Layout.{stageWords}
+use Rattle.stage_words.specs.Layout.{stageWords}
 use Rattle.chain_words.proofs.Parts.{part-run}
 use Rattle.chain_words.proofs.put_stage_at.Statement.{statement}
 use Rattle.chain_words.proofs.put_stage_at.Tie as tie

@@ -3,7 +3,7 @@ use borrow.Rule.Slice.PartAt.{part-to-end}
 use borrow.Author.Needs.{needs}
 use mathlib.Core.Path.{ap, _∙_}
 use Prim.Native.Nat.{_+_, _*_}
-use Rattle.chain_words.specs.Layout.{stageOf}
+use Rattle.stage_words.specs.Layout.{stageOf}
 use Rattle.chain_words.proofs.stage_at.Statement.{statement}
 use Rattle.chain_words.proofs.stage_at.Tie as tie
 

@@ -1,6 +1,6 @@
--- Laws of Chains.
+-- Laws of whole chains: words that were written for a chain stand for it. Assumes nothing.
 use mathlib.Core.Path.{_≡_, refl, sym, ap, ap₂, _∙_}
-use mathlib.Core.Bool.{true}
+use mathlib.Core.Bool.{Bool, true, false, cond}
 use mathlib.Core.List.{List, [], _∷_, _++_, append-assoc}
 use Prim.Native.Nat.{ℕ, zero, suc, _+_, _*_, _/_, _%_, _≤_, _<_}
 use native.Mathlib.Omega.{arith}
@@ -15,10 +15,12 @@ use Rattle.stage.specs.declared.Stage.{Stage}
 use Rattle.pcm.specs.laws.Tests.{both}
 use Rattle.recipe.specs.Records.{known}
 use Rattle.pipeline.specs.declared.Pipeline.{Pipeline}
-use Rattle.chain_words.specs.Layout.{settingWords, memoryWords, stageWords, headWords, stagesWords, wordsOf, word, stageOf, placeOf, stagesFrom, chainAt, kindsKnown, stands, noChain, chainOfWords}
-use Rattle.chain_words.specs.Storable.{Held, Small, Storable}
-use Rattle.chain_words.specs.laws.ReadBack.{stage-back}
-use Rattle.chain_words.specs.laws.Places.{length-stage}
+use Rattle.stage_words.specs.Layout.{settingWords, memoryWords, stageWords, word, stageOf}
+use Rattle.stage_words.specs.Storable.{Held, Small}
+use Rattle.stage_words.specs.laws.ReadBack.{stage-back}
+use Rattle.stage_words.specs.laws.Reading.{length-stage}
+use Rattle.chain_words.specs.Layout.{headWords, stagesWords, wordsOf, placeOf, stagesFrom, chainAt, kindsKnown, stands, noChain, chainOfWords}
+use Rattle.chain_words.specs.Storable.{Storable}
 
 -- ---- lengths
 pub length-head : (c : Pipeline) → length (headWords c) ≡ 8
@@ -122,3 +124,21 @@ too-few w h = rw (lt-leb 152 (length w) h)
 pub stands-long : (w : List ℕ) → stands w ≡ true → 152 ≤ length w
 unfolding stands
 stands-long w h = leb-true 152 (length w) (both (leb 152 (length w)) _ h .0)
+
+-- ---- the chain that words stand for
+pub stands-chain : (w : List ℕ) → stands w ≡ true → chainOfWords w ≡ chainAt w
+unfolding chainOfWords
+stands-chain w h = rw h
+
+pub no-words : (w : List ℕ) → stands w ≡ false → chainOfWords w ≡ noChain
+unfolding chainOfWords
+no-words w h = rw h
+
+-- a count of at most eight is that of words that stand for a chain
+pub few-stands : (w : List ℕ) → chainOfWords w .count ≤ 8 → stands w ≡ true
+unfolding chainOfWords
+few-stands w = go (stands w)
+  where
+    go : (b : Bool) → cond b (chainAt w) noChain .count ≤ 8 → b ≡ true
+    go true h = refl
+    go false h = absurd (let z : ⊥ = omega arith in z)

@@ -1,83 +1,21 @@
--- Laws of Places.
-use mathlib.Core.Path.{_≡_, refl, sym, ap, ap₂, _∙_, subst}
-use mathlib.Core.List.{List, [], _∷_, _++_, append-assoc}
-use Prim.Native.Nat.{ℕ, suc, _+_, _-_, _*_, _≤_, _<_}
+-- Laws of the places: each stage has its own words, and what is written to one place alters no other. Assumes nothing.
+use mathlib.Core.Path.{_≡_, sym, ap, ap₂, _∙_, subst}
+use mathlib.Core.List.{List, [], _∷_, _++_}
+use Prim.Native.Nat.{ℕ, _+_, _-_, _*_, _≤_, _<_}
 use native.Mathlib.Decide.{decLt}
 use native.Mathlib.Omega.{arith}
-use lib.ListN.{length, getD, take, drop, set, length-append, List·getD-append}
-use lib.Seq.{sets, sets-eq, getD-set-other, getD-drop, getD-append-add, length-take-le, drop-at}
+use lib.ListN.{length, getD, drop, List·getD-append}
+use lib.Seq.{sets, getD-drop, getD-append-add}
 use Rattle.stage.specs.declared.StageKind.{StageKind}
-use Rattle.stage.specs.declared.StageKind.the-variants as kind
 use Rattle.stage.specs.declared.SoundMemory.{SoundMemory}
 use Rattle.stage.specs.declared.Stage.{Stage}
-use Rattle.chain_words.specs.Layout.{settingWords, filterWords, stateWords, memoryWords, stageWords, word, kindOf, filterOf, stateOf, memoryOf, stageOf, placeOf, stageAt}
-use Rattle.chain_words.specs.Storable.{HeldFilter, TwoSamples, Held, Small}
-use Rattle.chain_words.specs.laws.ReadBack.{memory-back, stage-back}
+use Rattle.stage_words.specs.Layout.{memoryWords, stageWords, word, stageOf}
+use Rattle.stage_words.specs.Storable.{HeldFilter, TwoSamples, Held, Small}
+use Rattle.stage_words.specs.laws.ReadBack.{memory-back, stage-back}
+use Rattle.stage_words.specs.laws.Reading.{length-memory, length-stage, kind-same, memory-same, stage-same}
+use Rattle.stage_words.specs.laws.Runs.{before-run, after-run, from-run}
+use Rattle.chain_words.specs.Layout.{placeOf, stageAt}
 
--- ---- lengths
-pub length-settings : (k : StageKind) → length (settingWords k) ≡ 7
-unfolding settingWords
-length-settings (kind.Gain g) = refl
-length-settings kind.MonoToStereo = refl
-length-settings kind.StereoToMono = refl
-length-settings (kind.Resample r) = refl
-length-settings (kind.DcBlock d) = refl
-length-settings (kind.Biquad b) = refl
-
-pub length-memory : (m : SoundMemory) → length (memoryWords m) ≡ 11
-unfolding memoryWords filterWords stateWords
-length-memory m = refl
-
-pub length-stage : (s : Stage) → length (stageWords s) ≡ 18
-unfolding stageWords
-length-stage s = length-append (settingWords (s .kind)) (memoryWords (s .memory)) ∙ ap₂ _+_ (length-settings (s .kind)) (length-memory (s .memory))
-
--- ---- a run of words written from i on
-module _ {A : Type 0} where
-  pub sets-append : (a b l : List A) (i : ℕ) → sets l i (a ++ b) ≡ sets (sets l i a) (i + length a) b
-  sets-append [] b l i = let e : i + 0 ≡ i = omega arith in rw e
-  sets-append (x ∷ a) b l i = let e : suc i + length a ≡ i + suc (length a) = omega arith in sets-append a b (set l i x) (suc i) ∙ ap (λ (n : ℕ). sets (sets (set l i x) (suc i) a) n b) e
-
-  -- words before it and words after it stay
-  pub before-run : (vs l : List A) (i j : ℕ) (d : A) → j < i → getD (sets l i vs) j d ≡ getD l j d
-  before-run [] l i j d h = refl
-  before-run (v ∷ vs) l i j d h = before-run vs (set l i v) (suc i) j d (omega arith) ∙ getD-set-other l i j v d (λ (e : j ≡ i). omega arith)
-
-  pub after-run : (vs l : List A) (i j : ℕ) (d : A) → i + length vs ≤ j → getD (sets l i vs) j d ≡ getD l j d
-  after-run [] l i j d h = refl
-  after-run (v ∷ vs) l i j d h = after-run vs (set l i v) (suc i) j d (omega arith) ∙ getD-set-other l i j v d (λ (e : j ≡ i). omega arith)
-
-  -- from i on stands the run
-  pub from-run : (vs l : List A) (i : ℕ) → i + length vs ≤ length l → drop i (sets l i vs) ≡ vs ++ drop (i + length vs) l
-  from-run vs l i h =
-      ap (drop i) (sets-eq vs l i h ∙ append-assoc (take i l) vs (drop (i + length vs) l))
-      ∙ drop-at (take i l) (vs ++ drop (i + length vs) l) i (length-take-le i l (omega arith))
-
--- ---- a stage is what its eighteen words say
-kind-same : (a b : List ℕ) → ((j : ℕ) → j < 7 → word a j ≡ word b j) → kindOf a (word a 0) ≡ kindOf b (word b 0)
-unfolding kindOf
-kind-same a b h = rw (h 0 (omega arith), h 1 (omega arith), h 2 (omega arith), h 3 (omega arith), h 4 (omega arith), h 5 (omega arith), h 6 (omega arith))
-
-memory-same : (a b : List ℕ) → ((j : ℕ) → 7 ≤ j → j < 18 → word a j ≡ word b j) → memoryOf a ≡ memoryOf b
-unfolding filterOf stateOf
-memory-same a b h = rw (
-  h 7 (omega arith) (omega arith),
-  h 8 (omega arith) (omega arith),
-  h 9 (omega arith) (omega arith),
-  h 10 (omega arith) (omega arith),
-  h 11 (omega arith) (omega arith),
-  h 12 (omega arith) (omega arith),
-  h 13 (omega arith) (omega arith),
-  h 14 (omega arith) (omega arith),
-  h 15 (omega arith) (omega arith),
-  h 16 (omega arith) (omega arith),
-  h 17 (omega arith) (omega arith),
-)
-
-pub stage-same : (a b : List ℕ) → ((j : ℕ) → j < 18 → word a j ≡ word b j) → stageOf a ≡ stageOf b
-stage-same a b h = ap₂ (λ (k : StageKind) (m : SoundMemory). record { kind = k; memory = m }) (kind-same a b (λ j l. h j (omega arith))) (memory-same a b (λ j l k. h j k))
-
--- ---- a run at a place
 module _ (w : List ℕ) (i : ℕ) where
   -- a stage that was written stands there
   pub stage-written : (s : Stage) → Held s → Small s → 8 + 18 * i + 18 ≤ length w → stageAt (sets w (8 + 18 * i) (stageWords s)) i ≡ s

@@ -9,8 +9,8 @@ use Rattle.pcm.specs.Samples.{All}
 use Rattle.pcm.specs.Frames.{written}
 use Rattle.pcm.specs.declared.Verdict.the-variants.{Accepted}
 use Rattle.pipeline.specs.declared.Opened.{Opened}
+use Rattle.stage_words.specs.Storable.{Held}
 use Rattle.chain_words.specs.Layout.{wordsOf, chainOfWords}
-use Rattle.chain_words.specs.Storable.{Held}
 use Rattle.muzgleur.proofs.Opened.{open-stands, number-some}
 use Rattle.muzgleur.proofs.muzgleur_open.Statement.{statement}
 use Rattle.muzgleur.proofs.muzgleur_open.Tie as tie

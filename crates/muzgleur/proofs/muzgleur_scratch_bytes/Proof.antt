@@ -3,20 +3,11 @@ use borrow.Author.Needs.{needs}
 use Rattle.muzgleur.proofs.muzgleur_scratch_bytes.Statement.{statement}
 use Rattle.muzgleur.proofs.muzgleur_scratch_bytes.Tie as tie
 
-returns : tie.Need-returns
-returns c = let s = c .before .before .before in rw (← s .before .chain-of .ensures .0, ← s .scratch-bytes .ensures, c .before .answer .given .1)
-
-returns-2 : tie.Need-returns-2
-returns-2 c =
-    let s = c .before .before .before .before in
-    rw (← s .before .chain-of .ensures .0, ← s .scratch-bytes .ensures, c .before .before .answer2 .given .1, c .number .ensures)
-
 pub muzgleur-scratch-bytes-spec : {M : Type 1} → statement M
 muzgleur-scratch-bytes-spec = tie.close (tie.spec
     (λ c κs. search needs)
-    (λ c κs. search needs)
     (λ c. search needs)
     (λ c. search needs)
     (λ c κs. search needs)
-    returns
-    returns-2)
+    (λ c. rw (← c .before .before .before .scratch-bytes .ensures, c .before .answer .given .1))
+    (λ c. rw (← c .before .before .before .before .scratch-bytes .ensures, c .before .before .answer2 .given .1, c .number .ensures)))

@@ -19,8 +19,7 @@ use Rattle.questions.specs.declared.Question.{Question}
 use Rattle.questions.specs.declared.Question.the-variants.{Block, AnyState}
 use Rattle.questions.specs.declared.Due.{Due}
 use Rattle.questions.specs.declared.Walk.{Walk}
-use Rattle.questions.specs.Walk.{wholeFrames, sizeVerdict, framesIf, blockFrames, dueOf, roomOf, further, illegal, stepped}
-use Rattle.questions.specs.laws.Walk.{walked}
+use Rattle.questions.specs.Walk.{wholeFrames, sizeVerdict, framesIf, blockFrames, dueOf, roomOf, further, illegal, stepped, walked}
 use Rattle.questions.specs.laws.Bounds.{wanted-most, wide}
 
 -- ---- numbers

@@ -1,9 +1,0 @@
-mod Asking
-mod Concluding
-mod Counts
-mod Reaching
-mod Stages
-mod Bounds
-mod Steps
-mod Turns
-mod Walking

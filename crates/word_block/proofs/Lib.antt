@@ -1,0 +1,3 @@
+mod Moved
+mod Placing
+mod Verdicts

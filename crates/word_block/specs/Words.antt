@@ -1,0 +1,30 @@
+-- What a block leaves of the words beside the chain that they stand for. Definitions only.
+use mathlib.Core.Path.{_≡_}
+use mathlib.Core.List.{List}
+use Prim.Native.Nat.{ℕ, _+_, _*_, _≤_, _<_}
+use lib.ListN.{length}
+use Rattle.block.specs.declared.Answer.{Answer}
+use Rattle.block.specs.declared.Answer.the-variants as answer
+use Rattle.questions.specs.declared.Walk.{Walk}
+use Rattle.stage_words.specs.Layout.{word}
+
+-- only counters and memories of stages in use are altered: as many words as before, count, rate and channels, the word that is zero,
+-- kind and settings of each stage, and all words past the stages in use stay
+pub record SettingsStay (w w′ : List ℕ) : Type 0 where
+  pub long : length w′ ≡ length w
+  pub head : (j : ℕ) → j < 3 → word w′ j ≡ word w j
+  pub seventh : word w′ 7 ≡ word w 7
+  pub settings : (i j : ℕ) → j < 7 → word w′ (8 + 18 * i + j) ≡ word w (8 + 18 * i + j)
+  pub spare : (j : ℕ) → 8 + 18 * word w 0 ≤ j → word w′ j ≡ word w j
+
+-- a refusal leaves every word
+abbrev pub WordsAfter : Answer → List ℕ → List ℕ → Type 0
+WordsAfter (answer.Output f timestamp half len) w w′ = SettingsStay w w′
+WordsAfter answer.NothingYet w w′ = SettingsStay w w′
+WordsAfter (answer.Refused e) w w′ = w′ ≡ w
+
+-- a walk that asked along the stages, and the bounds of its figures
+pub record Walked (r found : Walk) : Type 0 where
+  pub is : r ≡ found
+  pub largest : r .largest ≤ 3688000000000000000
+  pub short : r .short ≤ 3688000000000000000
