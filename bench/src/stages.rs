@@ -64,7 +64,7 @@ fn biquad(name: &'static str, channels: u16) -> Case {
 
 fn resample(name: &'static str, given: [u32; 2], channels: u16) -> Case {
     let rates = kernels::Rates::new(given);
-    let goal = if given[0] == given[1] { [None; 3] } else { [Some(1.0), Some(0.9), Some(0.9)] };
+    let goal = if given[0] == given[1] { [None, Some(1.1), Some(1.1)] } else { [Some(1.0), Some(0.9), Some(0.9)] };
     Case {
         name,
         channels: channels.into(),
