@@ -2,8 +2,7 @@
 // back.
 ghost use mathlib.Core.Path.{_≡_};
 ghost use mathlib.Core.Bool.{true};
-ghost use mathlib.Core.List.{List};
-ghost use Prim.Native.Nat.{ℕ, _≤_};
+ghost use Prim.Native.Nat.{_≤_};
 ghost use lib.ListN.{length, take};
 ghost use lib.Seq.{sets};
 ghost use Rattle.block.specs.BlockCall.{countedUp, blockCall, accepted, blockVerdict, scratchBytes};
@@ -11,7 +10,6 @@ ghost use Rattle.turns.specs.Turns.{halves};
 ghost use Rattle.block.specs.Turns.{countedIf, Accepts};
 ghost use Rattle.questions.specs.Walk.{walked};
 ghost use Rattle.block.specs.laws.Asking.{Asks};
-ghost use Rattle.stage_words.specs.Layout.{word};
 ghost use Rattle.chain_words.specs.Layout.{counterWords, counterAt, chainAt, stands, chainOfWords};
 ghost use Rattle.word_block.specs.Words.{SettingsStay, WordsAfter, Walked};
 use block::Answer;

@@ -3,26 +3,19 @@ use borrow.Author.Needs.{needs}
 use borrow.Author.Tests.{not-true, not-false}
 use mathlib.Core.Logic.{⊎-elim}
 use mathlib.Core.Path.{_≡_, sym, ap, _∙_}
-use mathlib.Core.Bool.{Bool, true, false, cond}
-use mathlib.Core.List.{List}
-use Prim.Native.Nat.{ℕ, _+_, _-_, _<_}
+use mathlib.Core.Bool.{true}
+use Prim.Native.Nat.{ℕ, _-_, _<_}
 use native.Mathlib.Omega.{arith}
-use lib.Dec.{eqb}
 use lib.ListN.{length}
 use Rattle.pcm.specs.Samples.{Bytes}
 use Rattle.pcm.specs.laws.Samples.{all-by-index}
-use Rattle.pcm.specs.declared.Verdict.{Verdict}
 use Rattle.pcm.specs.declared.Verdict.the-variants.{Accepted}
-use Rattle.pcm.specs.declared.PcmFormat.{PcmFormat}
-use Rattle.pipeline.specs.declared.Pipeline.{Pipeline}
 use Rattle.questions.specs.declared.Question.the-variants.{Block}
-use Rattle.questions.specs.declared.Walk.{Walk}
 use Rattle.block.specs.BlockCall.{shorter, blockVerdict}
-use Rattle.pipeline.specs.WritingBack.{stagesOf}
 use Rattle.block.specs.laws.Steps.{accepts}
 use Rattle.turns.specs.Turns.{halves}
-use Rattle.block.specs.Turns.{Accepts, nextStage}
-use Rattle.questions.specs.Walk.{headLegal, begun, walked, verdictFrom}
+use Rattle.block.specs.Turns.{Accepts}
+use Rattle.questions.specs.Walk.{headLegal}
 use Rattle.pcm.specs.laws.Lists.{unmapped}
 use Rattle.block.specs.laws.Asking.{Asks, head-parts, asks-first, asks-fits, asks-next, asks-end, walk-verdict}
 use Rattle.block.specs.laws.Reaching.{shorter-a}

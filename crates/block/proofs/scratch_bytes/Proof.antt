@@ -11,7 +11,7 @@ use Rattle.questions.specs.declared.Question.the-variants.{AnyState}
 use Rattle.questions.specs.declared.Walk.{Walk}
 use Rattle.pipeline.specs.WritingBack.{stagesOf}
 use Rattle.block.specs.BlockCall.{scratchAnswer, scratchBytes}
-use Rattle.questions.specs.Walk.{headLegal, sizedFrom, begun, walked}
+use Rattle.questions.specs.Walk.{headLegal, sizedFrom, walked}
 use Rattle.block.specs.laws.Walking.{scratch-is, scratch-refused}
 use Rattle.pcm.specs.laws.Lists.{unmapped}
 use Rattle.block.specs.laws.Asking.{Asks, head-parts, asks-first, asks-fits, asks-next, asks-end}

@@ -1,13 +1,12 @@
 -- `chain_words::put_chain` meets its contract. Assumes nothing.
 use borrow.Author.Needs.{needs}
-use mathlib.Core.Path.{_≡_, refl, sym, ap, _∙_, subst}
-use mathlib.Core.List.{List, [], _++_}
+use mathlib.Core.Path.{_≡_, sym, ap, _∙_, subst}
+use mathlib.Core.List.{List, _++_}
 use Prim.Native.Nat.{ℕ, _+_, _-_, _*_, _≤_, _<_}
 use native.Mathlib.Omega.{arith}
 use lib.ListN.{length, take, getD, length-append}
 use lib.Seq.{sets, length-sets, length-take-le, take-all}
 use Rattle.pcm.specs.Samples.{All}
-use Rattle.pcm.specs.Frames.{written}
 use Rattle.stage.specs.declared.Stage.{Stage}
 use Rattle.stage_words.specs.Layout.{stageWords}
 use Rattle.stage_words.specs.Storable.{Held}

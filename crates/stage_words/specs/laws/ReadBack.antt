@@ -15,7 +15,6 @@ use mir.Facts.{toZ-ofZ, fits-ofZ}
 use Rattle.filters.specs.declared.FilterMemory.{FilterMemory}
 use Rattle.floats.specs.Floats.{patternOf}
 use Rattle.rates.specs.declared.ResamplerState.{ResamplerState}
-use Rattle.dc_block.specs.declared.DcBlock.{DcBlock}
 use Rattle.stage.specs.declared.StageKind.{StageKind}
 use Rattle.stage.specs.declared.StageKind.the-variants as kind
 use Rattle.stage.specs.declared.SoundMemory.{SoundMemory}

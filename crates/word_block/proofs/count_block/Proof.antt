@@ -2,8 +2,7 @@
 use borrow.Author.Needs.{needs}
 use mathlib.Core.Path.{ap, ap₂, _∙_}
 use Prim.Native.Nat.{ℕ}
-use lib.ListN.{length}
-use lib.Seq.{sets, length-sets}
+use lib.Seq.{sets}
 use Rattle.block.specs.BlockCall.{countedUp}
 use Rattle.block.specs.Turns.{countedIf}
 use Rattle.chain_words.specs.Layout.{counterWords}

@@ -1,8 +1,7 @@
 -- `word_block::process` meets its contract: THE BLOCK CALL ON WORDS. Assumes nothing.
 use borrow.Author.Needs.{needs}
-use mathlib.Core.Path.{_≡_, refl, sym, ap, _∙_, subst}
+use mathlib.Core.Path.{_≡_, refl, sym, ap, _∙_}
 use lib.ListN.{length}
-use Rattle.pcm.specs.declared.Verdict.{Verdict}
 use Rattle.pcm.specs.declared.Verdict.the-variants.{Accepted}
 use Rattle.block.specs.BlockCall.{shorter, blockVerdict}
 use Rattle.block.specs.laws.Steps.{accepts}
