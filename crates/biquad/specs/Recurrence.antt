@@ -2,13 +2,14 @@
 use lib.IntN.{ℤ, pos}
 use lib.Ieee.{Float, binary32, ofInt, ofBits}
 use Rattle.floats.specs.Floats.{patternOf}
-use Rattle.filters.specs.Filters.{Taps, plusZero, _⊕_, _⊖_, _⊗_}
+use Rattle.floats.specs.Operations.{plusZero, _+₃₂_, _-₃₂_, _*₃₂_}
+use Rattle.filters.specs.Filters.{Taps}
 use Rattle.cookbook.specs.declared.Coefficients.{Coefficients}
 use Rattle.biquad.specs.declared.CoefficientBits.{CoefficientBits}
 
 -- (((b0 * x + b1 * x1) + b2 * x2) - a1 * y1) - a2 * y2
 abbrev pub recurrence : Coefficients → Float → Float → Float → Float → Float → Float
-recurrence k x x1 x2 y1 y2 = (((k .b0 ⊗ x ⊕ k .b1 ⊗ x1) ⊕ k .b2 ⊗ x2) ⊖ k .a1 ⊗ y1) ⊖ k .a2 ⊗ y2
+recurrence k x x1 x2 y1 y2 = (((k .b0 *₃₂ x +₃₂ k .b1 *₃₂ x1) +₃₂ k .b2 *₃₂ x2) -₃₂ k .a1 *₃₂ y1) -₃₂ k .a2 *₃₂ y2
 
 -- a channel after the sample x: x2 takes x1, x1 takes x, y2 takes y1, y1 takes y
 unfoldable pub biquadTick : Coefficients → Taps → ℤ → Taps

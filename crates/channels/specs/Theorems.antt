@@ -1,11 +1,11 @@
 -- What the definitions come to: the chief theorems of this crate. Assumes nothing.
 use mathlib.Core.Path.{_≡_}
 use mathlib.Core.List.{List}
-use Prim.Native.Nat.{ℕ, _%_, _≤_, _<_}
-use borrow.Author.Tests.{eq-eqb, ne-eqb, le-leb, lt-leb}
+use Prim.Native.Nat.{ℕ, _%_, _≤_}
+use borrow.Author.Tests.{eq-eqb, ne-eqb, le-leb}
 use lib.ListN.{length}
 use Rattle.pcm.specs.declared.Verdict.the-variants.{Accepted, Refused}
-use Rattle.pcm.specs.declared.Error.the-variants.{InvalidGeometry, BufferTooSmall}
+use Rattle.pcm.specs.declared.Error.the-variants.{InvalidGeometry}
 use Rattle.pcm.specs.Refusals.{roomVerdict}
 use Rattle.channels.specs.Channels.{mixVerdict}
 
@@ -19,9 +19,9 @@ module _ (a b out : List ℕ) where
   unfolding mixVerdict
   mix-odd e h = rw (eq-eqb _ _ e, ne-eqb _ _ h)
 
-  pub mix-short : length a ≡ length b → length a % 2 ≡ 0 → length out < length a → mixVerdict a b out ≡ Refused (BufferTooSmall (length a))
-  unfolding mixVerdict roomVerdict
-  mix-short e h k = rw (eq-eqb _ _ e, eq-eqb _ _ h, lt-leb _ _ k)
+  pub mix-asks-room : length a ≡ length b → length a % 2 ≡ 0 → mixVerdict a b out ≡ roomVerdict (length a) (length out)
+  unfolding mixVerdict
+  mix-asks-room e h = rw (eq-eqb _ _ e, eq-eqb _ _ h)
 
   pub mix-accepted : length a ≡ length b → length a % 2 ≡ 0 → length a ≤ length out → mixVerdict a b out ≡ Accepted
   unfolding mixVerdict roomVerdict

@@ -81,9 +81,11 @@ pub fn mix_i16(a: &[u8], b: &[u8], out: &mut [u8]) -> Verdict
     if n % 2 != 0 {
         return Verdict::Refused(Error::InvalidGeometry);
     }
-    if out.len() < n {
-        return Verdict::Refused(Error::BufferTooSmall { needed: n });
+    match pcm::require_room(out, n) {
+        Verdict::Refused(e) => Verdict::Refused(e),
+        Verdict::Accepted => {
+            mix_block(a, b, out);
+            Verdict::Accepted
+        }
     }
-    mix_block(a, b, out);
-    Verdict::Accepted
 }

@@ -5,8 +5,10 @@ ghost use lib.IntN.{pos};
 ghost use lib.Ieee.{binary32, ofBits, ofInt};
 ghost use Rattle.floats.specs.Floats.{patternOf};
 ghost use Rattle.pcm.specs.Formats.{rateAllowed};
+ghost use Rattle.pcm.specs.Refusals.{numberOf, ifAccepted};
+ghost use Rattle.floats.specs.Operations.{plusZero};
 ghost use Rattle.filters.specs.Filters.{FilterBlock, FilteredBlock};
-ghost use Rattle.dc_block.specs.DcBlock.{blocked, dcTick, poleOf, poleAnswer, untuned};
+ghost use Rattle.dc_block.specs.DcBlock.{blocked, dcTick, poleOf, poleVerdict, poleAnswer, poleTold, untuned};
 use filters::FilterMemory;
 use pcm::Error;
 
@@ -16,6 +18,26 @@ const TAU: f32 = 6.2831855;
 pub enum PoleAnswer {
     Pole(f32),
     Refused(Error),
+}
+
+// 0 and the pole, or a refusal's number and 0.
+pub struct PoleTold {
+    pub number: u16,
+    pub pole: f32,
+}
+
+impl PoleAnswer {
+    pub fn told(self) -> PoleTold
+        ensures { λ t. ⌜ t ≡ poleTold self ⌝ }
+    {
+        match self {
+            PoleAnswer::Pole(pole) => PoleTold { number: 0, pole },
+            PoleAnswer::Refused(e) => PoleTold {
+                number: e.number(),
+                pole: 0.0,
+            },
+        }
+    }
 }
 
 // The corner's bits, as they came, and the pole, +0 until the filter is tuned to a rate.
@@ -48,6 +70,7 @@ impl DcBlock {
     // The pole for a rate, refused where the rate is not within its limit.
     pub fn pole(corner: f32, rate: u32) -> PoleAnswer
         ensures { λ a. ⌜ a ≡ poleAnswer corner rate ⌝ }
+        ensures told { λ a. ⌜ poleTold a ≡ record { number = numberOf (poleVerdict rate); pole = ifAccepted (poleVerdict rate) (poleOf corner rate) plusZero } ⌝ }
     {
         if pcm::rate_allowed(rate) {
             return PoleAnswer::Pole(radius(corner, rate));

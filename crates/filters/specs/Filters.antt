@@ -1,32 +1,15 @@
 -- A filter on frames, each channel by its own memory (document 01, 'The whole stream'). A filter is its `tick`: one channel's taps
 -- after a sample. Assumes nothing.
 use mathlib.Core.Path.{_≡_}
-use mathlib.Core.Bool.{false}
 use mathlib.Core.List.{List, [], _∷_, map}
 use Prim.Native.Nat.{ℕ, _*_, _%_, _≤_, _<_}
-use lib.IntN.{ℤ, pos}
+use lib.IntN.{ℤ}
 use lib.ListN.{length}
-use lib.Ieee.{Float, fin, binary32, add, sub, mul, div}
+use lib.Ieee.{Float}
 use Rattle.filters.specs.declared.FilterMemory.{FilterMemory}
-use Rattle.floats.specs.Rounding.{roundSat}
+use Rattle.floats.specs.Operations.{plusZero}
+use Rattle.floats.specs.Rounding.{rounded16}
 use Rattle.pcm.specs.Frames.{Frame, framesOf, bytesOf, written}
-
--- the operations of binary32, each rounded once
-infixl 6 _⊕_
-abbrev pub _⊕_ : Float → Float → Float
-x ⊕ y = add binary32 x y
-
-infixl 6 _⊖_
-abbrev pub _⊖_ : Float → Float → Float
-x ⊖ y = sub binary32 x y
-
-infixl 7 _⊗_
-abbrev pub _⊗_ : Float → Float → Float
-x ⊗ y = mul binary32 x y
-
-infixl 7 _⊘_
-abbrev pub _⊘_ : Float → Float → Float
-x ⊘ y = div binary32 x y
 
 -- one channel's two earlier inputs and two earlier outputs
 pub record Taps : Type 0 where
@@ -34,9 +17,6 @@ pub record Taps : Type 0 where
   pub x2 : Float
   pub y1 : Float
   pub y2 : Float
-
-abbrev pub plusZero : Float
-plusZero = fin false 0 (pos 0)
 
 -- each channel starts with x1, x2, y1, y2 at +0
 abbrev pub atRest : Taps
@@ -75,7 +55,7 @@ module _ (tick : Taps → ℤ → Taps) where
   -- round_sat16 makes the output of the new y1, which is kept as it is
   abbrev pub frameOut : List Taps → Frame → Frame
   frameOut ts [] = []
-  frameOut ts (x ∷ f) = roundSat 32768 32767 (tick (first atRest ts) x .y1) ∷ frameOut (others ts) f
+  frameOut ts (x ∷ f) = rounded16 (tick (first atRest ts) x .y1) ∷ frameOut (others ts) f
 
   -- what a filter makes of frames, and the taps afterwards
   abbrev pub filtered : List Taps → List Frame → List Frame

@@ -1,3 +1,4 @@
 pub mod Floats
+pub mod Operations
 pub mod Rounding
 pub mod laws

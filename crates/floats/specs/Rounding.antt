@@ -16,6 +16,10 @@ roundSat low high nan = pos 0
 roundSat low high (inf s) = cond s (negℤ (pos low)) (pos high)
 roundSat low high (fin s m e) = cond s (negℤ (pos (min (halfUp (m * up e) (down e)) low))) (pos (min (halfUp (m * up e) (down e)) high))
 
+-- round_sat16's rule: held within the sample range
+abbrev pub rounded16 : Float → ℤ
+rounded16 x = roundSat 32768 32767 x
+
 -- the magnitude alone, to the nearest whole number; an infinity's is past every limit that is asked for here
 unfoldable pub magnitude : Float → ℕ
 magnitude nan = 0

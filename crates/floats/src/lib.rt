@@ -7,7 +7,7 @@ ghost use lib.IntN.{pos, negℤ};
 ghost use lib.Ieee.{binary32, ofBits};
 ghost use lib.Ieee.Nearest.{closest};
 ghost use Rattle.floats.specs.Floats.{patternOf, narrowed};
-ghost use Rattle.floats.specs.Rounding.{magnitude, roundSat, atLeast, atMost, heldFloat};
+ghost use Rattle.floats.specs.Rounding.{magnitude, roundSat, rounded16, atLeast, atMost, heldFloat};
 
 // The float that a pattern stands for; every NaN's pattern gives a NaN.
 pub fn float_of_bits(n: u32) -> f32
@@ -146,7 +146,7 @@ pub fn narrow(x: f64) -> f32
 
 // To the nearest whole number, halves away from zero, held within the sample range; a NaN gives 0.
 pub fn round_sat16(v: f32) -> i16
-    ensures { λ r. ⌜ r ≡ roundSat 32768 32767 v ⌝ }
+    ensures { λ r. ⌜ r ≡ rounded16 v ⌝ }
 {
     round_held(hold16(v), 32768, 32767) as i16
 }

@@ -34,6 +34,19 @@ abbrev pub numberOf : Verdict → ℕ
 numberOf Accepted = 0
 numberOf (Refused e) = refusal e .number
 
+-- a value that only an accepted call gives, and what stands for it where the call is refused
+abbrev pub ifAccepted : {A : Type 0} → Verdict → A → A → A
+ifAccepted Accepted value none = value
+ifAccepted (Refused e) value none = none
+
+-- what a call that gives a number tells: 0 and its value, or the refusal's number and 0
+pub record Valued : Type 0 where
+  pub number : ℕ
+  pub value : ℕ
+
+abbrev pub valued : Verdict → ℕ → Valued
+valued v value = record { number = numberOf v; value = ifAccepted v value 0 }
+
 -- is there room for the bytes needed? else 3
 unfoldable pub roomVerdict : ℕ → ℕ → Verdict
 roomVerdict needed room = ask (leb needed room) (BufferTooSmall needed) Accepted

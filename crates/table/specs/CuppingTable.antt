@@ -8,7 +8,8 @@ use lib.Ieee.{fin, binary32, ofInt, div, add, sub, mul, round}
 use Rattle.pcm.specs.Samples.{held}
 use Rattle.floats.specs.Rounding.{roundSat, halfUp}
 use Rattle.pcm.specs.Frames.{Frame}
-use Rattle.filters.specs.Filters.{_⊘_, atRest, filtered}
+use Rattle.floats.specs.Operations.{_/₃₂_}
+use Rattle.filters.specs.Filters.{atRest, filtered}
 use Rattle.gain.specs.Gain.{heldFactor, scaled}
 use Rattle.channels.specs.Channels.{mixdown, mean, mixed}
 use Rattle.dc_block.specs.DcBlock.{dcTick}
@@ -77,7 +78,7 @@ unfolding resampledWhole wholeOutputs outputAt blend interpolated reduced gcd la
 h = refl
 
 -- (i) DC block with r one half, mono, samples 100, 100, 0: 100, 50, -75
-i : filtered (dcTick (ofInt binary32 (pos 1) ⊘ ofInt binary32 (pos 2))) (atRest ∷ []) (mono (100 ∷ 100 ∷ 0 ∷ [])) ≡ (pos 100 ∷ []) ∷ (pos 50 ∷ []) ∷ (negsuc 74 ∷ []) ∷ []
+i : filtered (dcTick (ofInt binary32 (pos 1) /₃₂ ofInt binary32 (pos 2))) (atRest ∷ []) (mono (100 ∷ 100 ∷ 0 ∷ [])) ≡ (pos 100 ∷ []) ∷ (pos 50 ∷ []) ∷ (negsuc 74 ∷ []) ∷ []
 unfolding dcTick roundSat halfUp ofInt div add sub mul round
 i = refl
 

@@ -8,7 +8,7 @@ use lib.IntN.{ℤ}
 use lib.ListN.{length, getD, drop, drop-of-length-le}
 use lib.Ieee.{Float, nan}
 use Rattle.filters.specs.declared.FilterMemory.{FilterMemory}
-use Rattle.floats.specs.Rounding.{roundSat}
+use Rattle.floats.specs.Rounding.{rounded16}
 use Rattle.floats.specs.laws.Rounding.{round-fits}
 use Rattle.pcm.specs.Samples.{All, Samples, encode, stored, sampleAt}
 use Rattle.pcm.specs.laws.Samples.{all-by-index, encode-append}
@@ -157,7 +157,7 @@ module _ {tick : Taps → ℤ → Taps} {ts₀ : List Taps} {input out₀ : List
     -- a frame of one channel
     pub filtering-mono : {t t′ : Taps} {ts : List Taps} {y : ℤ}
         → length input % 2 ≡ 0 → Filtering tick 1 ts₀ input out₀ (t ∷ ts) out i
-        → t′ ≡ tick t (sampleAt input i) → out′ ≡ stored out i y → y ≡ roundSat 32768 32767 (t′ .y1)
+        → t′ ≡ tick t (sampleAt input i) → out′ ≡ stored out i y → y ≡ rounded16 (t′ .y1)
         → Filtering tick 1 ts₀ input out₀ (t′ ∷ ts) out′ (i + 2)
     unfolding sampleAt
     filtering-mono {t} {t′} {ts} {y} w r e p q =
@@ -166,13 +166,13 @@ module _ {tick : Taps → ℤ → Taps} {ts₀ : List Taps} {input out₀ : List
         subst (λ (u : Taps). Filtering tick 1 ts₀ input out₀ (u ∷ ts) out′ (i + 2)) (sym e)
         (filtering-frame 1 (sampleAt input i ∷ []) r k (omega arith)
         (ap (framesOf 1) (next-pair input i (omega arith)) ∙ frames-mono _ _ _)
-        (λ _ _ v. writing-put v p (q ∙ ap (λ (u : Taps). roundSat 32768 32767 (u .y1)) e) k room))
+        (λ _ _ v. writing-put v p (q ∙ ap (λ (u : Taps). rounded16 (u .y1)) e) k room))
 
     -- a frame of two channels
     pub filtering-stereo : {l l′ r r′ : Taps} {ts : List Taps} {mid : List ℕ} {y z : ℤ}
         → length input % 4 ≡ 0 → Filtering tick 2 ts₀ input out₀ (l ∷ r ∷ ts) out i
         → l′ ≡ tick l (sampleAt input i) → r′ ≡ tick r (sampleAt input (i + 2))
-        → mid ≡ stored out i y → y ≡ roundSat 32768 32767 (l′ .y1) → out′ ≡ stored mid (i + 2) z → z ≡ roundSat 32768 32767 (r′ .y1)
+        → mid ≡ stored out i y → y ≡ rounded16 (l′ .y1) → out′ ≡ stored mid (i + 2) z → z ≡ rounded16 (r′ .y1)
         → Filtering tick 2 ts₀ input out₀ (l′ ∷ r′ ∷ ts) out′ (i + 4)
     unfolding sampleAt
     filtering-stereo {l} {l′} {r} {r′} {ts} {mid} {y} {z} w s el er p q p′ q′ =
@@ -182,7 +182,7 @@ module _ {tick : Taps → ℤ → Taps} {ts₀ : List Taps} {input out₀ : List
         rw (el, er)
         (filtering-frame 2 (sampleAt input i ∷ sampleAt input (i + 2) ∷ []) s k (omega arith)
         (ap (framesOf 2) (next-four input i (omega arith)) ∙ frames-stereo _ _ _ _ _)
-        (λ _ _ v. rw n at (writing-put (writing-put v p (q ∙ ap (λ (u : Taps). roundSat 32768 32767 (u .y1)) el) (omega arith) room) p′ (q′ ∙ ap (λ (u : Taps). roundSat 32768 32767 (u .y1)) er) (omega arith) room)))
+        (λ _ _ v. rw n at (writing-put (writing-put v p (q ∙ ap (λ (u : Taps). rounded16 (u .y1)) el) (omega arith) room) p′ (q′ ∙ ap (λ (u : Taps). rounded16 (u .y1)) er) (omega arith) room)))
 
   -- the end of the input: the output is written, and the memory is that afterwards
   pub filtering-end : {m m′ : FilterMemory} {ch : ℕ} {ts : List Taps} {out : List ℕ} {i : ℕ}

@@ -7,7 +7,7 @@ use lib.IntN.{pos, negℤ}
 use lib.Ieee.{Float, nan, inf, fin, up, down}
 use mir.Syntax.{w16}
 use mir.Val.{SFits}
-use Rattle.floats.specs.Rounding.{halfUp, roundSat}
+use Rattle.floats.specs.Rounding.{halfUp, roundSat, rounded16}
 
 -- ---- what is rounded to a sample is a sample
 low-fits : (k : ℕ) → k ≤ 32768 → SFits w16 (negℤ (pos k))
@@ -18,7 +18,7 @@ either-fits : (s : Bool) (k n : ℕ) → k ≤ 32768 → n ≤ 32767 → SFits w
 either-fits true k n h l = low-fits k h
 either-fits false k n h l = record { sfits = omega arith }
 
-pub round-fits : (x : Float) → SFits w16 (roundSat 32768 32767 x)
+pub round-fits : (x : Float) → SFits w16 (rounded16 x)
 unfolding roundSat
 round-fits nan = record { sfits = lit< tt }
 round-fits (inf s) = either-fits s 32768 32767 (omega arith) (omega arith)

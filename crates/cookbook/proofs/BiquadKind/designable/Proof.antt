@@ -5,7 +5,8 @@ use mathlib.Core.Bool.{true, _&&_}
 use lib.IntN.{pos}
 use lib.Ieee.{Float, binary64, lt, ofBits, ofInt, round}
 use Rattle.pcm.specs.Formats.{rateAllowed}
-use Rattle.cookbook.specs.Cookbook.{designAllowed, frequencyAllowed, qualityAllowed, cosineAllowed, sineAllowed, zero, two, _⊘_}
+use Rattle.floats.specs.Operations.{_/₆₄_}
+use Rattle.cookbook.specs.Cookbook.{designAllowed, frequencyAllowed, qualityAllowed, cosineAllowed, sineAllowed, zero, two}
 use Rattle.cookbook.proofs.BiquadKind.designable.Statement.{statement}
 use Rattle.cookbook.proofs.BiquadKind.designable.Tie as tie
 
@@ -18,7 +19,7 @@ unfolding frequencyAllowed ofBits ofInt round
 frequency-is c =
     let s = c .before .before .before .before .before .before in
     let f = c .before .before .f32-to-f64-with-nan .ensures ∙ c .before .before .before .f0 .ensures in
-    sym (c .between .ensures ∙ ap (λ (x : Float). lt zero x && lt x (ofInt binary64 (pos (s .args .rate)) ⊘ two)) f)
+    sym (c .between .ensures ∙ ap (λ (x : Float). lt zero x && lt x (ofInt binary64 (pos (s .args .rate)) /₆₄ two)) f)
 
 quality-is : (c : tie.After-q) → qualityAllowed (c .before .before .before .before .before .before .before .before .args .self) ≡ lt zero (c .q .result)
 unfolding qualityAllowed

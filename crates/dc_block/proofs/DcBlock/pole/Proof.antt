@@ -1,21 +1,41 @@
 -- `dc_block::DcBlock::pole` meets its contract. Assumes nothing.
 use borrow.Author.Needs.{needs}
-use mathlib.Core.Path.{ap, sym, _∙_}
-use Rattle.dc_block.specs.DcBlock.{poleAnswer}
+use mathlib.Core.Path.{_≡_, refl, ap, sym, _∙_}
+use mathlib.Core.Bool.{Bool, true, false}
+use Prim.Native.Nat.{ℕ}
+use lib.Ieee.{Float}
+use Rattle.pcm.specs.Formats.{rateAllowed}
+use Rattle.pcm.specs.Refusals.{numberOf, ifAccepted}
+use Rattle.floats.specs.Operations.{plusZero}
+use Rattle.dc_block.specs.DcBlock.{poleOf, poleVerdict, poleAnswer, poleTold}
+use Rattle.dc_block.specs.declared.PoleAnswer.{PoleAnswer}
 use Rattle.dc_block.specs.declared.PoleAnswer.the-variants.{Pole}
+use Rattle.dc_block.specs.declared.PoleTold.{PoleTold}
 use Rattle.dc_block.proofs.DcBlock.pole.Statement.{statement}
 use Rattle.dc_block.proofs.DcBlock.pole.Tie as tie
+
+-- what the answer tells, by the question
+abbrev told : Float → ℕ → PoleTold
+told corner rate = record { number = numberOf (poleVerdict rate); pole = ifAccepted (poleVerdict rate) (poleOf corner rate) plusZero }
+
+told-is : (corner : Float) (rate : ℕ) (t : Bool) → rateAllowed rate ≡ t → poleTold (poleAnswer corner rate) ≡ told corner rate
+unfolding poleAnswer poleVerdict
+told-is corner rate true e = rw e
+told-is corner rate false e = rw e
+
+both : (corner : Float) (rate : ℕ) {a : PoleAnswer} → a ≡ poleAnswer corner rate → (a ≡ poleAnswer corner rate) × (poleTold a ≡ told corner rate)
+both corner rate e = (e, ap poleTold e ∙ told-is corner rate (rateAllowed rate) refl)
 
 radius-requires : tie.Need-radius-requires
 radius-requires c κs = sym (c .before .rate-allowed .ensures) ∙ c .if1 .taken
 
 returns : tie.Need-returns
 unfolding poleAnswer
-returns c = rw (sym (c .before .before .rate-allowed .ensures) ∙ c .before .if1 .taken) (ap Pole (c .radius .ensures))
+returns c = both _ _ (rw (sym (c .before .before .rate-allowed .ensures) ∙ c .before .if1 .taken) (ap Pole (c .radius .ensures)))
 
 returns-2 : tie.Need-returns-2
 unfolding poleAnswer
-returns-2 c = rw (sym (c .before .rate-allowed .ensures) ∙ c .if1 .left)
+returns-2 c = both _ _ (rw (sym (c .before .rate-allowed .ensures) ∙ c .if1 .left))
 
 pub pole-spec : {M : Type 1} → statement M
 pole-spec = tie.close (tie.spec (λ c κs. search needs) radius-requires returns returns-2)
