@@ -1,6 +1,8 @@
 // A resampler's rates, and the frames that it wants and delivers, from the phase alone (resample.rs).
 ghost use mathlib.Core.Path.{_≡_};
-ghost use Prim.Native.Nat.{_+_, _*_, _<_, _^_};
+ghost use Prim.Native.Nat.{_+_, _*_, _/_, _<_, _^_};
+ghost use Rattle.pcm.specs.Refusals.{valued};
+ghost use Rattle.rates.specs.Answers.{newTold, ratesTold, newVerdict, maxTold, maxVerdict};
 ghost use Rattle.rates.specs.Divisor.{gcd};
 ghost use Rattle.rates.specs.Rates.{openedState, resampledCount, ratesAllowed, resamplerOf, roomFrames, maxFrames, start};
 use pcm::Error;
@@ -28,6 +30,40 @@ pub enum NewResampler {
 pub enum MaxFrames {
     Frames(usize),
     Refused(Error),
+}
+
+impl NewResampler {
+    // 0, or the refusal's number.
+    pub fn number(self) -> u16
+        ensures { λ r. ⌜ r ≡ newTold self .number ⌝ }
+    {
+        match self {
+            NewResampler::Made(_) => 0,
+            NewResampler::Refused(e) => e.number(),
+        }
+    }
+}
+
+impl MaxFrames {
+    // 0, or the refusal's number.
+    pub fn number(self) -> u16
+        ensures { λ r. ⌜ r ≡ maxTold self .number ⌝ }
+    {
+        match self {
+            MaxFrames::Frames(_) => 0,
+            MaxFrames::Refused(e) => e.number(),
+        }
+    }
+
+    // The frames, or 0.
+    pub fn value(self) -> usize
+        ensures { λ r. ⌜ r ≡ maxTold self .value ⌝ }
+    {
+        match self {
+            MaxFrames::Frames(n) => n,
+            MaxFrames::Refused(_) => 0,
+        }
+    }
 }
 
 impl ResamplerState {
@@ -82,6 +118,7 @@ impl LinearResampler {
     // A resampler between two rates of 1 to 384,000.
     pub fn new(in_rate: u32, out_rate: u32) -> NewResampler
         ensures { λ r. ⌜ r ≡ resamplerOf «in_rate» «out_rate» ⌝ }
+        ensures told { λ r. ⌜ newTold r ≡ ratesTold (newVerdict «in_rate» «out_rate») («in_rate» / gcd «in_rate» «out_rate») («out_rate» / gcd «in_rate» «out_rate») ⌝ }
     {
         if rates_allowed(in_rate, out_rate) {
             let g = gcd(in_rate as u64, out_rate as u64);
@@ -108,6 +145,7 @@ impl LinearResampler {
     // The room wanted for a block of at most 8,192 frames, in frames.
     pub fn max_output_frames(self, frames: usize) -> MaxFrames
         ensures { λ r. ⌜ r ≡ maxFrames self frames ⌝ }
+        ensures told { λ r. ⌜ maxTold r ≡ valued (maxVerdict self frames) (roomFrames (self .«in_rate») (self .«out_rate») frames) ⌝ }
     {
         if rates_allowed(self.in_rate, self.out_rate) {
             if frames <= pcm::MAX_FRAMES {

@@ -1,16 +1,18 @@
 -- What the definitions come to: the chief theorems of this crate. Assumes nothing.
 use mathlib.Core.Path.{_≡_}
-use Prim.Native.Nat.{ℕ, _+_, _*_, _≤_, _<_}
+use Prim.Native.Nat.{ℕ, _+_, _*_, _^_, _≤_, _<_}
 use native.Mathlib.Nat.{le-refl, le-of-mul-le-mul-right}
 use native.Mathlib.Omega.{arith}
 use mathlib.Core.Bool.{true}
 use mathlib.Core.List.{List}
-use lib.Dec.{eqb}
+use lib.Dec.{eqb, lit<}
+use lib.IntN.{pos, negsuc}
 use Rattle.rates.specs.Counting.{ceilDiv}
 use Rattle.rates.specs.laws.Counting.{ceil-reach, ceil-least}
 use Rattle.rates.specs.Rates.{roomFrames}
 use Rattle.pcm.specs.Frames.{Frame}
 use Rattle.resample.specs.Resample.{resampled, stateAfter}
+use Rattle.resample.specs.Value.{interpolated, value, distance}
 use Rattle.rates.specs.declared.LinearResampler.{LinearResampler}
 use Rattle.rates.specs.declared.ResamplerState.{ResamplerState}
 
@@ -34,3 +36,8 @@ module _ (r : LinearResampler) (s : ResamplerState) (xs : List Frame) (e : eqb (
   pub state-equal : stateAfter r s xs ≡ s
   unfolding stateAfter
   state-equal = rw e
+
+-- one half alone is no bound: the line is further off at out_r 131,071, rem 131,070 and samples 65,535 apart
+pub half-exceeded : 131071 * 2 ^ 31 < distance 131071 (negsuc 32767) (pos 32767) 131070 (value 131071 (negsuc 32767) (pos 32767) 131070)
+unfolding interpolated
+half-exceeded = lit< tt

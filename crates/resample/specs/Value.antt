@@ -1,17 +1,17 @@
 -- The value between two samples (document 01, resample.rs): it lies between them, near the line, and is a sample. Assumes nothing.
 use mathlib.Core.Logic.{_⊎_}
-use Prim.Native.Nat.{ℕ, _+_, _*_, _/_, _≤_}
+use Prim.Native.Nat.{ℕ, _+_, _*_, _/_, _^_, _≤_}
 use lib.IntN.{ℤ, pos, natAbs, _+ℤ_, _-ℤ_, _*ℤ_}
 use lib.Signed.{_≤ℤ_}
 use Rattle.pcm.specs.Integers.{floorDiv}
 
 -- frac = floor(rem * 2^32 / out_r)
 abbrev pub frac : ℕ → ℕ → ℕ
-frac o rem = rem * 4294967296 / o
+frac o rem = rem * 2 ^ 32 / o
 
 -- f / 2^32 of the way from a to b: a + floor(((b - a) * f + 2^31) / 2^32)
 unfoldable pub interpolated : ℤ → ℤ → ℕ → ℤ
-interpolated a b f = a +ℤ floorDiv ((b -ℤ a) *ℤ pos f +ℤ pos 2147483648) 4294967296
+interpolated a b f = a +ℤ floorDiv ((b -ℤ a) *ℤ pos f +ℤ pos (2 ^ 31)) (2 ^ 32)
 
 -- rem / out_r of the way from a to b
 abbrev pub value : ℕ → ℤ → ℤ → ℕ → ℤ
@@ -29,13 +29,13 @@ Between a b v = Ordered a v b ⊎ Ordered b v a
 abbrev pub line : ℕ → ℤ → ℤ → ℕ → ℤ
 line o a b rem = a *ℤ pos o +ℤ (b -ℤ a) *ℤ pos rem
 
--- v is within 1/2 + 65,535/2^32 of the line, both times out_r * 2^32
+-- the distance of v from the line, times out_r * 2^32
+abbrev pub distance : ℕ → ℤ → ℤ → ℕ → ℤ → ℕ
+distance o a b rem v = natAbs (v *ℤ pos o -ℤ line o a b rem) * 2 ^ 32
+
+-- its bound, 1/2 + 65,535/2^32, times out_r * 2^32
+abbrev pub bound : ℕ → ℕ
+bound o = o * (2 ^ 31 + 65535)
+
 abbrev pub NearLine : ℕ → ℤ → ℤ → ℕ → ℤ → Type 0
-NearLine o a b rem v = natAbs (v *ℤ pos o -ℤ line o a b rem) * 4294967296 ≤ o * (2147483648 + 65535)
-
--- ---- the step up or down from a, by the distance d of b
-abbrev pub up : ℕ → ℕ → ℕ
-up d f = (d * f + 2147483648) / 4294967296
-
-abbrev pub down : ℕ → ℕ → ℕ
-down d f = (d * f + 2147483647) / 4294967296
+NearLine o a b rem v = distance o a b rem v ≤ bound o

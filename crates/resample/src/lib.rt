@@ -72,8 +72,8 @@ impl Position {
 
     // How far it lies past n frames, in out_r-ths of a frame.
     fn past(self, n: usize, out_r: u64) -> u64
-        requires { ⌜ (Parts «out_r» self × («out_r» ≤ 384000)) × ((n ≤ self .frame) × ((self .frame - n) * «out_r» + (self .frac * «out_r» + self .over) / 4294967296 < 2 ^ 64)) ⌝ }
-        ensures { λ r. ⌜ r ≡ (self .frame - n) * «out_r» + (self .frac * «out_r» + self .over) / 4294967296 ⌝ }
+        requires { ⌜ (Parts «out_r» self × («out_r» ≤ 384000)) × ((n ≤ self .frame) × ((self .frame - n) * «out_r» + (self .frac * «out_r» + self .over) / 2 ^ 32 < 2 ^ 64)) ⌝ }
+        ensures { λ r. ⌜ r ≡ (self .frame - n) * «out_r» + (self .frac * «out_r» + self .over) / 2 ^ 32 ⌝ }
     {
         let frames = self.frame - n;
         let rem = (self.frac * out_r + self.over) / 4294967296;
@@ -83,7 +83,7 @@ impl Position {
 
 // f / 2^32 of the way from a to b.
 fn interpolate(a: i16, b: i16, f: u64) -> i16
-    requires { ⌜ f < 4294967296 ⌝ }
+    requires { ⌜ f < 2 ^ 32 ⌝ }
     ensures { λ r. ⌜ r ≡ interpolated a b f ⌝ }
 {
     let x = a as i64;
@@ -93,7 +93,7 @@ fn interpolate(a: i16, b: i16, f: u64) -> i16
 
 // The same to the sample at the byte i, from that of the frame before, which is `last` where i is in the first frame.
 fn between(input: &[u8], last: i16, i: usize, width: usize, f: u64) -> i16
-    requires { ⌜ (i + 1 < length (now input)) × (f < 4294967296) ⌝ }
+    requires { ⌜ (i + 1 < length (now input)) × (f < 2 ^ 32) ⌝ }
     ensures { λ r. ⌜ r ≡ interpolated (earlierOf (now (input .entry)) last i width) (sampleAt (now (input .entry)) i) f ⌝ }
 {
     let b = pcm::get_i16(input, i);

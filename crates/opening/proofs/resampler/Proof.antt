@@ -11,7 +11,7 @@ returns : tie.Need-returns
 returns c =
     let a = c .before .before .before .args in
     let e = opened-made (a .in-rate) (a .out-rate) (c .before .before .before .pre) in
-    let m = c .before .before .new .ensures in
+    let m = c .before .before .new .ensures .0 in
     let t = c .enum-told .given .1 in
     let z : _≡_ {A = ℕ} 0 1 = cc in
     absurd (let w : ⊥ = omega arith in w)
@@ -20,7 +20,7 @@ returns-2 : tie.Need-returns-2
 returns-2 c =
     let s = c .before .before .before .before in
     let e = opened-made (s .args .in-rate) (s .args .out-rate) (s .pre) in
-    let m = c .before .before .before .new .ensures in
+    let m = c .before .before .before .new .ensures .0 in
     let t = c .before .made .given .1 in
     cc
 

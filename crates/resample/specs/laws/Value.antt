@@ -12,7 +12,14 @@ use mir.Syntax.{w16}
 use mir.Val.{SFits}
 use Rattle.pcm.specs.Integers.{floorDiv}
 use Rattle.pcm.specs.laws.Integers.{sub-lt, sub-ge, +ℤ-*ℤ, add-sub-add, add-sub-self, self-sub-add, pos-sub-pos, dist-le, apart, add-mono, add-le}
-use Rattle.resample.specs.Value.{frac, interpolated, value, Ordered, Between, NearLine, up, down}
+use Rattle.resample.specs.Value.{frac, interpolated, value, Ordered, Between, bound, NearLine}
+
+-- ---- the step up or down from a, by the distance d of b
+abbrev up : ℕ → ℕ → ℕ
+up d f = (d * f + 2147483648) / 4294967296
+
+abbrev down : ℕ → ℕ → ℕ
+down d f = (d * f + 2147483647) / 4294967296
 
 floor-neg : (m : ℕ) → floorDiv (negℤ (pos m) +ℤ pos 2147483648) 4294967296 ≡ negℤ (pos ((m + 2147483647) / 4294967296))
 floor-neg zero = refl
@@ -93,10 +100,10 @@ module _ (o r : ℕ) (h : r < o) where
   pub frac-below : frac o r < 4294967296
   frac-below = let p : 0 < o = omega arith in div-lt-iff-lt-mul p .1 (omega arith)
 
-  near-up : (d e : ℕ) → d ≤ 65535 → e * 4294967296 ≤ d * frac o r + 2147483648 → (e * o) * 4294967296 ≤ (d * r) * 4294967296 + o * (2147483648 + 65535)
+  near-up : (d e : ℕ) → d ≤ 65535 → e * 4294967296 ≤ d * frac o r + 2147483648 → (e * o) * 4294967296 ≤ (d * r) * 4294967296 + bound o
   near-up d e k l = omega (arith, mul-le-mul-right o l, mul-le-mul-right d (div-mul-le-self (r * 4294967296) o))
 
-  near-down : (d e : ℕ) → d ≤ 65535 → d * frac o r ≤ e * 4294967296 + 2147483648 → (d * r) * 4294967296 ≤ (e * o) * 4294967296 + o * (2147483648 + 65535)
+  near-down : (d e : ℕ) → d ≤ 65535 → d * frac o r ≤ e * 4294967296 + 2147483648 → (d * r) * 4294967296 ≤ (e * o) * 4294967296 + bound o
   near-down d e k l =
       let p : 0 < o = omega arith in
       omega (arith, mul-le-mul-right o l, mul-le-mul-right d (le-of-lt (lt-div-mul-add {a = r * 4294967296} p)), mul-le-mul-right o k)
@@ -105,7 +112,7 @@ module _ (o r : ℕ) (h : r < o) where
   near-rising a d k =
       let f : ℕ = frac o r in
       rw (rising a d f, add-sub-self a (pos d), +ℤ-*ℤ a (pos (up d f)) (pos o), add-sub-add (a *ℤ pos o), pos-sub-pos (up d f * o) (d * r))
-      (dist-le (up d f * o) (d * r) 4294967296 (o * (2147483648 + 65535)) (near-up d (up d f) k (omega arith)) (near-down d (up d f) k (omega arith)))
+      (dist-le (up d f * o) (d * r) 4294967296 (bound o) (near-up d (up d f) k (omega arith)) (near-down d (up d f) k (omega arith)))
 
   neg-sub-neg : (x y : ℕ) → negℤ (pos x) -ℤ negℤ (pos y) ≡ subℕ y x
   neg-sub-neg x y = ap (λ z. negℤ (pos x) +ℤ z) (negℤ-negℤ (pos y)) ∙ +ℤ-comm (negℤ (pos x)) (pos y) ∙ pos-sub-pos y x
@@ -114,7 +121,7 @@ module _ (o r : ℕ) (h : r < o) where
   near-falling b d k =
       let f : ℕ = frac o r in
       rw (falling b d f, self-sub-add b (pos d), +ℤ-*ℤ (b +ℤ pos d) (negℤ (pos (down d f))) (pos o), neg-pos-mul (down d f) o, neg-pos-mul d r, add-sub-add ((b +ℤ pos d) *ℤ pos o), neg-sub-neg (down d f * o) (d * r))
-      (dist-le (d * r) (down d f * o) 4294967296 (o * (2147483648 + 65535)) (near-down d (down d f) k (omega arith)) (near-up d (down d f) k (omega arith)))
+      (dist-le (d * r) (down d f * o) 4294967296 (bound o) (near-down d (down d f) k (omega arith)) (near-up d (down d f) k (omega arith)))
 
   pub value-near-line : (a b : ℤ) → natAbs (b -ℤ a) ≤ 65535 → NearLine o a b r (value o a b r)
   value-near-line a b k = pick (apart a b) k

@@ -8,6 +8,7 @@ use native.Mathlib.Nat.{mul-le-mul}
 use native.Mathlib.Omega.{arith}
 use Rattle.rates.specs.Rates.{ratesAllowed, maxFrames}
 use Rattle.rates.specs.laws.Rates.{rates-within}
+use Rattle.rates.proofs.Answers.{max-answered}
 use Rattle.rates.proofs.LinearResampler.max_output_frames.Statement.{statement}
 use Rattle.rates.proofs.LinearResampler.max_output_frames.Tie as tie
 
@@ -17,18 +18,20 @@ allowed c = sym (c .before .rates-allowed .ensures) ∙ c .if1 .taken
 returns : tie.Need-returns
 unfolding maxFrames
 returns c =
-    let h : c .before .before .before .before .args .frames ≤ 8192 = omega (arith, c .before .if2 .taken) in
-    rw (allowed (c .before .before), le-leb _ _ h, c .room-frames .ensures)
+    let a = c .before .before .before .before .args in
+    let h : a .frames ≤ 8192 = omega (arith, c .before .if2 .taken) in
+    max-answered (a .self) (a .frames) (rw (allowed (c .before .before), le-leb _ _ h, c .room-frames .ensures))
 
 returns-2 : tie.Need-returns-2
 unfolding maxFrames
 returns-2 c =
-    let h : 8192 < c .before .before .before .args .frames = omega (arith, c .if2 .left) in
-    rw (allowed (c .before), lt-leb _ _ h)
+    let a = c .before .before .before .args in
+    let h : 8192 < a .frames = omega (arith, c .if2 .left) in
+    max-answered (a .self) (a .frames) (rw (allowed (c .before), lt-leb _ _ h))
 
 returns-3 : tie.Need-returns-3
 unfolding maxFrames
-returns-3 c = rw (sym (c .before .rates-allowed .ensures) ∙ c .if1 .left)
+returns-3 c = let a = c .before .before .args in max-answered (a .self) (a .frames) (rw (sym (c .before .rates-allowed .ensures) ∙ c .if1 .left))
 
 pub max-output-frames-spec : {M : Type 1} → statement M
 max-output-frames-spec = tie.close (tie.spec (λ c κs. search needs)

@@ -6,6 +6,7 @@ use Prim.Native.Nat.{_<_}
 use Rattle.rates.specs.laws.Divisor.{gcd-positive}
 use Rattle.rates.specs.Rates.{ratesAllowed, resamplerOf, reduced}
 use Rattle.rates.specs.laws.Rates.{rates-within}
+use Rattle.rates.proofs.Answers.{new-answered}
 use Rattle.rates.proofs.LinearResampler.new.Statement.{statement}
 use Rattle.rates.proofs.LinearResampler.new.Tie as tie
 
@@ -19,11 +20,11 @@ positive c =
 
 returns : tie.Need-returns
 unfolding resamplerOf reduced
-returns c = rw (allowed (c .before), c .gcd .ensures)
+returns c = let a = c .before .before .before .args in new-answered (a .in-rate) (a .out-rate) (rw (allowed (c .before), c .gcd .ensures))
 
 returns-2 : tie.Need-returns-2
 unfolding resamplerOf
-returns-2 c = rw (sym (c .before .rates-allowed .ensures) ∙ c .if1 .left)
+returns-2 c = let a = c .before .before .args in new-answered (a .in-rate) (a .out-rate) (rw (sym (c .before .rates-allowed .ensures) ∙ c .if1 .left))
 
 pub new-spec : {M : Type 1} → statement M
 new-spec = tie.close (tie.spec (λ c κs. search needs)
