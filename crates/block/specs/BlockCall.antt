@@ -27,12 +27,12 @@ use Rattle.pipeline.specs.Reset.{formatLeaving}
 use Rattle.questions.specs.Walk.{wholeFrames, sameFormat, larger}
 use Rattle.turns.specs.Turns.{Halves}
 
--- each stage stageSuits the format that reaches it
+-- each stage suits the format that reaches it
 unfoldable pub suited : PcmFormat → List Stage → Bool
 suited f [] = true
 suited f (s ∷ rest) = stageSuits f (s .kind) (s .memory) && suited (formatAfter f (s .kind)) rest
 
--- what the block call needs of a chain; every chain that opening or a call returned has it
+-- what the block call needs of a chain; one that opening accepted has it, and keeps it after any calls
 unfoldable pub legal : Pipeline → Bool
 legal c = leb (c .count) 8 && (formatAllowed (c .format) && suited (c .format) (stagesOf c))
 
@@ -138,6 +138,7 @@ unfoldable pub blockCall : Pipeline → PcmFormat → ℕ → List ℕ → List 
 blockCall c format timestamp bytes a b =
     concluded (blockVerdict c format (length bytes) (shorter a b)) c timestamp bytes (record { a = a; b = b })
 
+-- ---- scratch_bytes: if every stage delivered all that it wants room for
 unfoldable pub largestRoom : PcmFormat → List Stage → ℕ → ℕ
 largestRoom f [] n = 0
 largestRoom f (s ∷ rest) n = larger (roomWanted f (s .kind) n) (largestRoom (formatAfter f (s .kind)) rest (framesWanted (s .kind) n))
@@ -146,9 +147,12 @@ abbrev pub scratchAnswer : Verdict → ℕ → Scratch
 scratchAnswer Accepted figure = scratch.Bytes figure
 scratchAnswer (Refused e) figure = scratch.Refused e
 
--- the block itself included
+-- twice the largest room on the way, the block itself included
+abbrev pub scratchFigure : Pipeline → ℕ → ℕ
+scratchFigure c size = 2 * larger size (largestRoom (c .format) (stagesOf c) (size / (c .format .channels * 2)))
+
 unfoldable pub scratchBytes : Pipeline → ℕ → Scratch
-scratchBytes c size = scratchAnswer (sizeAsked c size Accepted) (2 * larger size (largestRoom (c .format) (stagesOf c) (size / (c .format .channels * 2))))
+scratchBytes c size = scratchAnswer (sizeAsked c size Accepted) (scratchFigure c size)
 
 -- ---- the output as a part of the half that holds it, empty if the length given exceeds that half
 abbrev pub frontOf : ℕ → List ℕ → List ℕ

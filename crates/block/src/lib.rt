@@ -3,6 +3,7 @@ ghost use mathlib.Core.Path.{_≡_};
 ghost use Prim.Native.Nat.{_≤_, _<_};
 ghost use lib.ListN.{length};
 ghost use Rattle.block.specs.BlockCall.{countedUp, lastHalf, outputAnswer, blockCall, scratchBytes, shorterOf, frontOf, outputOf};
+ghost use Rattle.block.specs.Told.{halfNumber, silentTold, answerTold, blockTold, scratchValued, sizeValued};
 ghost use Rattle.block.specs.Turns.{countedIf, unstaged, nextStage};
 use pcm::Error;
 use pcm::PcmFormat;
@@ -16,6 +17,18 @@ pub enum Half {
     B,
 }
 
+impl Half {
+    // 0 is half a, 1 is half b.
+    pub fn number(self) -> u8
+        ensures { λ r. ⌜ r ≡ halfNumber self ⌝ }
+    {
+        match self {
+            Half::A => 0,
+            Half::B => 1,
+        }
+    }
+}
+
 pub enum Answer {
     Output {
         format: PcmFormat,
@@ -27,6 +40,61 @@ pub enum Answer {
     Refused(Error),
 }
 
+// Document 01's number and values of an answer. Outcome: 0 refused, 1 sound, 2 nothing yet; what follows it is zero but for sound.
+pub struct Told {
+    pub number: u16,
+    pub needed: usize,
+    pub outcome: u8,
+    pub rate: u32,
+    pub channels: u16,
+    pub timestamp: u64,
+    pub half: u8,
+    pub len: usize,
+}
+
+// What is told where there is no sound.
+fn silent(number: u16, needed: usize, outcome: u8) -> Told
+    ensures { λ r. ⌜ r ≡ silentTold number needed outcome ⌝ }
+{
+    Told {
+        number,
+        needed,
+        outcome,
+        rate: 0,
+        channels: 0,
+        timestamp: 0,
+        half: 0,
+        len: 0,
+    }
+}
+
+impl Answer {
+    // Number and values of each case.
+    pub fn told(self) -> Told
+        ensures { λ r. ⌜ r ≡ answerTold self ⌝ }
+    {
+        match self {
+            Answer::Output {
+                format,
+                timestamp,
+                half,
+                len,
+            } => Told {
+                number: 0,
+                needed: 0,
+                outcome: 1,
+                rate: format.rate,
+                channels: format.channels,
+                timestamp,
+                half: half.number(),
+                len,
+            },
+            Answer::NothingYet => silent(0, 0, 2),
+            Answer::Refused(e) => silent(e.number(), e.needed(), 0),
+        }
+    }
+}
+
 pub struct Outcome {
     pub chain: Pipeline,
     pub answer: Answer,
@@ -35,6 +103,28 @@ pub struct Outcome {
 pub enum Scratch {
     Bytes(usize),
     Refused(Error),
+}
+
+impl Scratch {
+    // 0, or the refusal's number.
+    pub fn number(self) -> u16
+        ensures { λ r. ⌜ r ≡ scratchValued self .number ⌝ }
+    {
+        match self {
+            Scratch::Bytes(_) => 0,
+            Scratch::Refused(e) => e.number(),
+        }
+    }
+
+    // The figure, 0 where it is refused.
+    pub fn value(self) -> usize
+        ensures { λ r. ⌜ r ≡ scratchValued self .value ⌝ }
+    {
+        match self {
+            Scratch::Bytes(n) => n,
+            Scratch::Refused(_) => 0,
+        }
+    }
 }
 
 // One more, up to 2^64 - 1.
@@ -131,7 +221,8 @@ pub fn process(
     a: &mut [u8],
     b: &mut [u8],
 ) -> Outcome
-    ensures { λ r. ⌜ record { chain = r .chain; answer = r .answer; a = now (a .exit); b = now (b .exit) } ≡ blockCall chain format timestamp (now (block .entry)) (now (a .entry)) (now (b .entry)) ⌝ }
+    ensures all { λ r. ⌜ record { chain = r .chain; answer = r .answer; a = now (a .exit); b = now (b .exit) } ≡ blockCall chain format timestamp (now (block .entry)) (now (a .entry)) (now (b .entry)) ⌝ }
+    ensures told { λ r. ⌜ answerTold (r .answer) ≡ blockTold chain format timestamp (now (block .entry)) (now (a .entry)) (now (b .entry)) ⌝ }
 {
     let own = chain.format;
     let count = chain.count;
@@ -185,7 +276,8 @@ pub fn output<'a>(a: &'a [u8], b: &'a [u8], half: Half, len: usize) -> &'a [u8]
     }
 }
 
-fn front<'a>(s: &'a [u8], len: usize) -> &'a [u8]
+// The first `len` bytes; none if there are fewer.
+pub fn front<'a>(s: &'a [u8], len: usize) -> &'a [u8]
     ensures { λ r. ⌜ now r ≡ frontOf len (now (s .entry)) ⌝ }
 {
     if len <= s.len() { &s[..len] } else { &s[..0] }
@@ -194,7 +286,8 @@ fn front<'a>(s: &'a [u8], len: usize) -> &'a [u8]
 // Twice the bytes of a half: two such halves are enough for any block of `size` bytes, in any state. The block itself counts, as for
 // a chain of no stages.
 pub fn scratch_bytes(chain: Pipeline, size: usize) -> Scratch
-    ensures { λ r. ⌜ r ≡ scratchBytes chain size ⌝ }
+    ensures all { λ r. ⌜ r ≡ scratchBytes chain size ⌝ }
+    ensures told { λ r. ⌜ scratchValued r ≡ sizeValued chain size ⌝ }
 {
     let own = chain.format;
     let count = chain.count;

@@ -1,6 +1,5 @@
 // Document 01, 'By program': what the calls answer. One line for each: what was asked, then 0 or the refusal's number, then bytes.
 use block::Answer;
-use block::Half;
 use pcm::PcmFormat;
 use pipeline::Pipeline;
 
@@ -14,7 +13,13 @@ fn line(label: &[u8], number: u16, bytes: usize) {
     io::write_all(1, b"\n");
 }
 
-// One block through a chain: the output's bytes or the bytes needed are told, and the chain goes on.
+// A label, 0, and 'nothing yet' in words: no output of length 0 looks the same.
+fn nothing_yet(label: &[u8]) {
+    io::write_all(1, label);
+    io::write_all(1, b": 0 nothing yet\n");
+}
+
+// One block through a chain: the output's bytes, 'nothing yet' or the bytes needed are told, and the chain goes on.
 fn told(
     label: &[u8],
     chain: Pipeline,
@@ -32,7 +37,7 @@ fn told(
             half: _,
             len,
         } => line(label, 0, len),
-        Answer::NothingYet => line(label, 0, 0),
+        Answer::NothingYet => nothing_yet(label),
         Answer::Refused(e) => line(label, e.number(), e.needed()),
     }
     done.chain
@@ -101,7 +106,7 @@ fn longest() {
         b"8,192 frames",
         chain,
         format,
-        block::output(&sound, &sound, Half::A, 16384),
+        block::front(&sound, 16384),
         &mut a,
         &mut b,
     );
@@ -109,7 +114,7 @@ fn longest() {
         b"8,193 frames",
         chain,
         format,
-        block::output(&sound, &sound, Half::A, 16386),
+        block::front(&sound, 16386),
         &mut a,
         &mut b,
     );
@@ -121,11 +126,7 @@ fn stages(nine: &[u8]) {
         rate: 16000,
         channels: 2,
     };
-    opens(
-        b"eight stages",
-        format,
-        block::output(nine, nine, Half::A, 64),
-    );
+    opens(b"eight stages", format, block::front(nine, 64));
     opens(b"nine stages", format, nine);
 }
 

@@ -1,3 +1,4 @@
 mod Opens
 mod OpeningLaws
 mod ResetLaws
+mod Writing

@@ -13,6 +13,7 @@ use Rattle.pipeline.specs.laws.Reset.{front-cleared}
 use Rattle.pcm.specs.declared.PcmFormat.{PcmFormat}
 use Rattle.pcm.specs.declared.Verdict.the-variants.{Accepted}
 use Rattle.pcm.specs.Formats.{formatAllowed}
+use Rattle.pcm.specs.Refusals.{roomVerdict}
 use Rattle.pcm.specs.Samples.{Bytes}
 use Rattle.pcm.specs.Frames.{written}
 use Rattle.pipeline.specs.declared.WriteAnswer.the-variants as answer
@@ -42,7 +43,7 @@ module _ (f : PcmFormat) (bytes : List ℕ) (c : Pipeline) (e : openCall f bytes
 
     -- every recipe that opens is written back unchanged, whatever its bits
     pub opened-writes : (out : List ℕ) → length bytes ≤ length out → writeCall c out ≡ record { answer = answer.Written (length bytes); out = written bytes out }
-    unfolding writeCall writeVerdict
+    unfolding writeCall writeVerdict roomVerdict
     opened-writes out h = rw (le-leb (c .count) 8 opened-count, recipe-kept, le-leb (length bytes) (length out) h)
 
     -- what a chain writes opens as the same chain as opened, whatever sound the stages have taken since

@@ -3,15 +3,16 @@ use mathlib.Core.List.{List}
 use Prim.Native.Nat.{ℕ}
 use lib.Dec.{leb}
 use lib.ListN.{length, take}
-use Rattle.pcm.specs.declared.Error.the-variants.{InvalidFormat, BufferTooSmall}
+use Rattle.pcm.specs.declared.Error.the-variants.{InvalidFormat}
 use Rattle.pcm.specs.declared.Verdict.{Verdict}
 use Rattle.pcm.specs.declared.Verdict.the-variants as verdict
-use Rattle.pcm.specs.Refusals.{ask}
+use Rattle.pcm.specs.Refusals.{ask, refusal, roomVerdict}
 use Rattle.pcm.specs.Frames.{written}
 use Rattle.stage.specs.declared.Stage.{Stage}
 use Rattle.pipeline.specs.declared.Pipeline.{Pipeline}
 use Rattle.pipeline.specs.declared.WriteAnswer.{WriteAnswer}
 use Rattle.pipeline.specs.declared.WriteAnswer.the-variants as answer
+use Rattle.pipeline.specs.declared.WriteTold.{WriteTold}
 use Rattle.writing.specs.WritingBack.{recipeOf}
 
 -- the stages in use
@@ -27,8 +28,7 @@ pub record WriteOutcome : Type 0 where
 unfoldable pub writeVerdict : Pipeline → ℕ → Verdict
 writeVerdict c room =
     ask (leb (c .count) 8) InvalidFormat
-    (ask (leb (length (recipeOf (stagesOf c))) room) (BufferTooSmall (length (recipeOf (stagesOf c))))
-    verdict.Accepted)
+    (roomVerdict (length (recipeOf (stagesOf c))) room)
 
 -- bytes past those written stay, and a refusal alters nothing
 abbrev pub writeOutcome : Verdict → List ℕ → List ℕ → WriteOutcome
@@ -37,3 +37,12 @@ writeOutcome (verdict.Refused e) bytes out = record { answer = answer.Refused e;
 
 unfoldable pub writeCall : Pipeline → List ℕ → WriteOutcome
 writeCall c out = writeOutcome (writeVerdict c (length out)) (recipeOf (stagesOf c)) out
+
+-- ---- the paper's number, needed and length: of each case, and of a call whose questions came to a verdict
+abbrev pub writeTold : WriteAnswer → WriteTold
+writeTold (answer.Written n) = record { number = 0; needed = 0; len = n }
+writeTold (answer.Refused e) = record { number = refusal e .number; needed = refusal e .needed; len = 0 }
+
+abbrev pub toldOfWriting : Verdict → ℕ → WriteTold
+toldOfWriting verdict.Accepted n = record { number = 0; needed = 0; len = n }
+toldOfWriting (verdict.Refused e) n = record { number = refusal e .number; needed = refusal e .needed; len = 0 }

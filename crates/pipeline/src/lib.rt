@@ -1,9 +1,10 @@
 // A chain of stages, carried by value (pipeline.rs): opened from a recipe and written back to it.
 ghost use mathlib.Core.Path.{_≡_};
 ghost use Rattle.pipeline.specs.Opening.{openCall, unusedStage, chainOf};
-ghost use Rattle.pipeline.specs.WritingBack.{writeCall};
+ghost use Rattle.writing.specs.WritingBack.{recipeOf};
+ghost use Rattle.pipeline.specs.WritingBack.{stagesOf, writeVerdict, writeCall, writeTold, toldOfWriting};
 ghost use Rattle.pipeline.specs.Reset.{outputFormat, resetCall};
-ghost use lib.ListN.{replicate};
+ghost use lib.ListN.{length, replicate};
 ghost use mathlib.Core.List.{[]};
 use opening::StageAnswer;
 use pcm::Error;
@@ -33,6 +34,33 @@ pub struct Opened {
 pub enum WriteAnswer {
     Written(usize),
     Refused(Error),
+}
+
+// Document 01's number, needed and length of a WriteAnswer.
+pub struct WriteTold {
+    pub number: u16,
+    pub needed: usize,
+    pub len: usize,
+}
+
+impl WriteAnswer {
+    // Number and values of each case.
+    pub fn told(self) -> WriteTold
+        ensures { λ r. ⌜ r ≡ writeTold self ⌝ }
+    {
+        match self {
+            WriteAnswer::Written(len) => WriteTold {
+                number: 0,
+                needed: 0,
+                len,
+            },
+            WriteAnswer::Refused(e) => WriteTold {
+                number: e.number(),
+                needed: e.needed(),
+                len: 0,
+            },
+        }
+    }
 }
 
 // Eight places not in use.
@@ -100,7 +128,8 @@ impl Pipeline {
 
     // The bytes that the chain was opened from, at the front of out.
     pub fn write_recipe(self, out: &mut [u8]) -> WriteAnswer
-        ensures { λ r. ⌜ record { answer = r; out = now (out .exit) } ≡ writeCall self (now (out .entry)) ⌝ }
+        ensures all { λ r. ⌜ record { answer = r; out = now (out .exit) } ≡ writeCall self (now (out .entry)) ⌝ }
+        ensures told { λ r. ⌜ writeTold r ≡ toldOfWriting (writeVerdict self (length (now (out .entry)))) (length (recipeOf (stagesOf self))) ⌝ }
     {
         let count = self.count;
         if count > 8 {
@@ -108,8 +137,9 @@ impl Pipeline {
         }
         let stages = self.stages;
         let needed = writing::recipe_size(stages, count);
-        if out.len() < needed {
-            return WriteAnswer::Refused(Error::BufferTooSmall { needed });
+        let room = pcm::require_room(out, needed);
+        if let Verdict::Refused(e) = room {
+            return WriteAnswer::Refused(e);
         }
         writing::write_stages(stages, count, out);
         WriteAnswer::Written(needed)

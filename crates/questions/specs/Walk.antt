@@ -1,6 +1,6 @@
--- The block call (document 01, pipeline.rs and 'The questions'): from a chain and a call to all that is there afterwards. Definitions only.
+-- The questions of a block and of `scratch_bytes` (document 01, 'The questions'), as one walk along the stages finds them. Definitions only.
 use mathlib.Core.Bool.{Bool, cond, _&&_, true, false}
-use Prim.Native.Nat.{ℕ, _*_, _%_, _/_}
+use Prim.Native.Nat.{ℕ, _*_, _%_, _/_, _≤_, _<_}
 use lib.Dec.{eqb, leb, ltb}
 use mathlib.Core.List.{List, [], _∷_}
 use Rattle.pcm.specs.declared.PcmFormat.{PcmFormat}
@@ -24,7 +24,6 @@ wholeFrames f size = ltb 0 size && eqb (size % (f .channels * 2)) 0
 abbrev pub sameFormat : PcmFormat → PcmFormat → Bool
 sameFormat f g = eqb (f .rate) (g .rate) && eqb (f .channels) (g .channels)
 
--- ---- scratch_bytes: twice the largest block on the way, if every stage delivered all that it wants room for
 unfoldable pub larger : ℕ → ℕ → ℕ
 larger a b = cond (leb a b) b a
 
@@ -78,6 +77,10 @@ unfoldable pub stepped : Question → ℕ → Walk → Stage → Walk
 stepped q shorter w s = cond (w .legal && stageSuits (w .format) (s .kind) (s .memory)) (further q shorter w s) (illegal (w .format))
 
 -- ---- the walk
+-- so few frames in 1 or 2 channels that every figure fits
+abbrev pub WalkFits : Walk → Type 0
+WalkFits w = (w .frames ≤ 2400000000000) × ((0 < w .format .channels) × (w .format .channels ≤ 2))
+
 -- before the first stage: the frames of a block of `size` bytes; for no stages they want room themselves
 abbrev pub copyRoom : ℕ → ℕ → ℕ
 copyRoom count room = cond (eqb count 0) room 0

@@ -2,7 +2,7 @@
 ghost use mathlib.Core.Path.{_≡_};
 ghost use Prim.Native.Nat.{_≤_, _<_};
 ghost use Rattle.stage.specs.Rooms.{Bounded};
-ghost use Rattle.questions.specs.Walk.{sameFormat, larger, headLegal, sizeVerdict, blockFrames, dueOf, firstShort, further, stepped, begun, copyRoom, sizedFrom, verdictFrom};
+ghost use Rattle.questions.specs.Walk.{sameFormat, larger, headLegal, sizeVerdict, blockFrames, dueOf, firstShort, further, stepped, begun, copyRoom, WalkFits, sizedFrom, verdictFrom};
 use pcm::Error;
 use pcm::PcmFormat;
 use pcm::Verdict;
@@ -124,7 +124,7 @@ fn larger_of(a: usize, b: usize) -> usize
 
 // One stage further, past a stage that suits.
 fn onward(walk: Walk, s: Stage, question: Question, shorter: usize) -> Walk
-    requires { ⌜ (walk .frames ≤ 2400000000000) × ((0 < walk .format .channels) × (walk .format .channels ≤ 2)) × Bounded (s .kind) ⌝ }
+    requires { ⌜ WalkFits walk × Bounded (s .kind) ⌝ }
     ensures { λ r. ⌜ r ≡ further question shorter walk s ⌝ }
 {
     let reaching = walk.format;
@@ -143,7 +143,7 @@ fn onward(walk: Walk, s: Stage, question: Question, shorter: usize) -> Walk
 
 // One stage further: does it suit the format that reaches it, and what will it want and deliver?
 pub fn asked(walk: Walk, s: Stage, question: Question, shorter: usize) -> Walk
-    requires { ⌜ (walk .frames ≤ 2400000000000) × ((0 < walk .format .channels) × (walk .format .channels ≤ 2)) ⌝ }
+    requires { ⌜ WalkFits walk ⌝ }
     ensures { λ r. ⌜ r ≡ stepped question shorter walk s ⌝ }
 {
     let format = walk.format;

@@ -1,30 +1,30 @@
--- Laws of Records.
+-- The number of a kind's fields, and a record's bytes stored part by part. Assumes nothing.
 use mathlib.Core.Path.{_≡_, _∙_}
 use mathlib.Core.Bool.{true}
-use mathlib.Core.List.{List, [], _∷_, _++_}
-use Prim.Native.Nat.{ℕ, zero, suc, _+_, _-_, _*_, _≤_}
+use mathlib.Core.List.{List, _++_}
+use Prim.Native.Nat.{ℕ, suc, _+_, _*_, _≤_}
 use native.Mathlib.Nat.{zero-add}
 use native.Mathlib.Omega.{arith}
-use lib.ListN.{length, getD}
+use lib.ListN.{length}
 use lib.Seq.{sets, sets-eq}
 use Rattle.recipe.specs.declared.Record.{Record}
 use Rattle.words.specs.Words.{wordBytes, wordsBytes}
 use Rattle.pcm.specs.Frames.{written}
-use Rattle.recipe.specs.Records.{known, fieldCount, kindNumber, fieldsOf, recordBytes}
+use Rattle.recipe.specs.Records.{Kind, gain, monoToStereo, stereoToMono, resample, dcBlock, biquad, unknown, kindNumbered, known, fieldsIn, fieldCount, kindNumber, fieldsOf, recordBytes}
 use Rattle.recipe.specs.laws.Records.{known-within}
 
--- ---- laws of the table of kinds
+-- ---- laws of the kinds
 pub few-fields : (kind : ℕ) → fieldCount kind ≤ 6
-few-fields kind = entry (kind - 1)
+few-fields kind = few (kindNumbered kind)
   where
-    entry : (n : ℕ) → getD (1 ∷ 0 ∷ 0 ∷ 2 ∷ 1 ∷ 6 ∷ []) n 0 ≤ 6
-    entry zero = omega arith
-    entry (suc zero) = omega arith
-    entry (suc (suc zero)) = omega arith
-    entry (suc (suc (suc zero))) = omega arith
-    entry (suc (suc (suc (suc zero)))) = omega arith
-    entry (suc (suc (suc (suc (suc zero))))) = omega arith
-    entry (suc (suc (suc (suc (suc (suc n)))))) = omega arith
+    few : (k : Kind) → fieldsIn k ≤ 6
+    few gain = omega arith
+    few monoToStereo = omega arith
+    few stereoToMono = omega arith
+    few resample = omega arith
+    few dcBlock = omega arith
+    few biquad = omega arith
+    few unknown = omega arith
 
 -- a known kind that is none of the first five
 pub last-kind : (kind : ℕ) → known kind ≡ true → (kind ≡ 1 → ⊥) → (kind ≡ 2 → ⊥) → (kind ≡ 3 → ⊥) → (kind ≡ 4 → ⊥) → (kind ≡ 5 → ⊥) → kind ≡ 6

@@ -1,7 +1,7 @@
 -- The records of a recipe and the questions that their bytes are asked (document 01, 'The recipe' and 'The questions'). Assumes nothing.
 use mathlib.Core.Bool.{Bool, _&&_}
 use mathlib.Core.List.{List, [], _∷_, _++_}
-use Prim.Native.Nat.{ℕ, _+_, _-_, _*_}
+use Prim.Native.Nat.{ℕ, _+_, _*_}
 use lib.Dec.{leb, ltb, eqb}
 use lib.ListN.{length, getD, drop}
 use mir.Syntax.{w32}
@@ -17,12 +17,33 @@ use Rattle.recipe.specs.declared.RecordAnswer.the-variants as answer
 use Rattle.words.specs.Words.{wordAt, wordBytes, words, wordsBytes}
 
 -- 0x0001 gain, 0x0002 mono to stereo, 0x0003 stereo to mono, 0x0004 resample, 0x0005 DC, 0x0006 biquad
+pub data Kind : Type 0 where
+  gain : Kind
+  monoToStereo : Kind
+  stereoToMono : Kind
+  resample : Kind
+  dcBlock : Kind
+  biquad : Kind
+  unknown : Kind
+
+abbrev pub kindNumbered : ℕ → Kind
+kindNumbered n = getD (unknown ∷ gain ∷ monoToStereo ∷ stereoToMono ∷ resample ∷ dcBlock ∷ biquad ∷ []) n unknown
+
 abbrev pub known : ℕ → Bool
 known kind = ltb 0 kind && leb kind 6
 
 -- how many fields of 32 bits each kind has
+abbrev pub fieldsIn : Kind → ℕ
+fieldsIn gain = 1
+fieldsIn monoToStereo = 0
+fieldsIn stereoToMono = 0
+fieldsIn resample = 2
+fieldsIn dcBlock = 1
+fieldsIn biquad = 6
+fieldsIn unknown = 0
+
 abbrev pub fieldCount : ℕ → ℕ
-fieldCount kind = getD (1 ∷ 0 ∷ 0 ∷ 2 ∷ 1 ∷ 6 ∷ []) (kind - 1) 0
+fieldCount kind = fieldsIn (kindNumbered kind)
 
 -- a record's kind
 abbrev pub kindNumber : Record → ℕ
@@ -47,18 +68,17 @@ unfoldable pub recordBytes : Record → List ℕ
 recordBytes r = wordBytes 2 (2 + 4 * length (fieldsOf r)) ++ (wordBytes 2 (kindNumber r) ++ wordsBytes (fieldsOf r))
 
 -- the record of a kind with these fields
+abbrev pub recordWith : Kind → List ℕ → Record
+recordWith gain fields = rec.Gain (toZ w32 (getD fields 0 0))
+recordWith monoToStereo fields = rec.MonoToStereo
+recordWith stereoToMono fields = rec.StereoToMono
+recordWith resample fields = rec.Resample (getD fields 0 0) (getD fields 1 0)
+recordWith dcBlock fields = rec.DcBlock (getD fields 0 0)
+recordWith biquad fields = rec.Biquad (getD fields 0 0) (record { b0 = getD fields 1 0; b1 = getD fields 2 0; b2 = getD fields 3 0; a1 = getD fields 4 0; a2 = getD fields 5 0 })
+recordWith unknown fields = rec.MonoToStereo
+
 unfoldable pub recordOf : ℕ → List ℕ → Record
-recordOf kind fields =
-    getD
-    (rec.Gain (toZ w32 (getD fields 0 0))
-    ∷ rec.MonoToStereo
-    ∷ rec.StereoToMono
-    ∷ rec.Resample (getD fields 0 0) (getD fields 1 0)
-    ∷ rec.DcBlock (getD fields 0 0)
-    ∷ rec.Biquad (getD fields 0 0) (record { b0 = getD fields 1 0; b1 = getD fields 2 0; b2 = getD fields 3 0; a1 = getD fields 4 0; a2 = getD fields 5 0 })
-    ∷ [])
-    (kind - 1)
-    rec.MonoToStereo
+recordOf kind fields = recordWith (kindNumbered kind) fields
 
 -- ---- the bytes that are left, from a record's first on
 abbrev pub lengthAt : List ℕ → ℕ

@@ -6,8 +6,6 @@ use crate::input;
 use crate::input::Count;
 use crate::output;
 use block::Answer;
-use block::Half;
-use block::Scratch;
 use cookbook::BiquadKind;
 use cookbook::Coefficients;
 use cookbook::DesignAnswer;
@@ -18,7 +16,6 @@ use pcm::Error;
 use pcm::PcmFormat;
 use pcm::Verdict;
 use pipeline::Pipeline;
-use pipeline::WriteAnswer;
 use rates::LinearResampler;
 use rates::MaxFrames;
 use rates::NewResampler;
@@ -78,7 +75,7 @@ pub fn open(chain: Pipeline, buf: &mut [u8]) -> Step {
     let Count::Value(n) = recipe else {
         return ended(chain);
     };
-    let opened = Pipeline::open(format, block::output(buf, buf, Half::A, n));
+    let opened = Pipeline::open(format, block::front(buf, n));
     let verdict = opened.verdict;
     let next = opened.chain;
     output::short(verdict.number());
@@ -91,52 +88,31 @@ pub fn open(chain: Pipeline, buf: &mut [u8]) -> Step {
     }
 }
 
-// Outcome, format, timestamp, half and length, and the output part.
-fn told<'a>(answer: Answer, a: &'a [u8], b: &'a [u8]) {
+// The output as a part of the half that holds it; empty where there is none.
+fn part<'a>(answer: Answer, a: &'a [u8], b: &'a [u8]) -> &'a [u8] {
     match answer {
         Answer::Output {
-            format,
-            timestamp,
+            format: _,
+            timestamp: _,
             half,
             len,
-        } => {
-            result();
-            output::byte(1);
-            output::word(format.rate);
-            output::short(format.channels);
-            output::long(timestamp);
-            output::byte(half_number(half));
-            output::length(len);
-            output::bytes(block::output(a, b, half, len));
-        }
-        Answer::NothingYet => {
-            result();
-            output::byte(2);
-            silent();
-        }
-        Answer::Refused(e) => {
-            refusal(e);
-            output::byte(0);
-            silent();
-        }
+        } => block::output(a, b, half, len),
+        Answer::NothingYet => block::front(a, 0),
+        Answer::Refused(_) => block::front(a, 0),
     }
 }
 
-fn half_number(half: Half) -> u8 {
-    match half {
-        Half::A => 0,
-        Half::B => 1,
-    }
-}
-
-// The fields of an output where there is none, and its part, empty.
-fn silent() {
-    output::word(0);
-    output::short(0);
-    output::long(0);
-    output::byte(0);
-    output::word(0);
-    output::word(0);
+// Number and values of an answer, and the output part.
+fn told<'a>(answer: Answer, a: &'a [u8], b: &'a [u8]) {
+    let t = answer.told();
+    valued(t.number, t.needed as u64);
+    output::byte(t.outcome);
+    output::word(t.rate);
+    output::short(t.channels);
+    output::long(t.timestamp);
+    output::byte(t.half);
+    output::length(t.len);
+    output::bytes(part(answer, a, b));
 }
 
 fn counters(chain: Pipeline) {
@@ -181,7 +157,7 @@ fn played_in(
         chain,
         format,
         timestamp,
-        block::output(sound, sound, Half::A, n),
+        block::front(sound, n),
         &mut a[..m],
         &mut b[..k],
     )
@@ -237,16 +213,9 @@ pub fn reset(chain: Pipeline) -> Step {
 // The call, and the room afterwards.
 fn wrote(chain: Pipeline, room: &mut [u8]) {
     let answer = chain.write_recipe(room);
-    match answer {
-        WriteAnswer::Written(n) => {
-            result();
-            output::length(n);
-        }
-        WriteAnswer::Refused(e) => {
-            refusal(e);
-            output::word(0);
-        }
-    }
+    let t = answer.told();
+    valued(t.number, t.needed as u64);
+    output::length(t.len);
     output::bytes(room);
 }
 
@@ -266,10 +235,7 @@ pub fn scratch_bytes(chain: Pipeline) -> bool {
         return false;
     }
     let answer = block::scratch_bytes(chain, input::get_u64(&s, 0) as usize);
-    match answer {
-        Scratch::Bytes(n) => valued(0, n as u64),
-        Scratch::Refused(e) => valued(e.number(), 0),
-    }
+    valued(answer.number(), answer.value() as u64);
     true
 }
 
@@ -304,11 +270,7 @@ pub fn mix(a: &mut [u8], b: &mut [u8], out: &mut [u8]) -> bool {
         return false;
     };
     let k = input::held(k, out);
-    mixed(
-        block::output(a, a, Half::A, n),
-        block::output(b, b, Half::A, m),
-        &mut out[..k],
-    );
+    mixed(block::front(a, n), block::front(b, m), &mut out[..k]);
     true
 }
 

@@ -12,7 +12,7 @@ use Rattle.pcm.specs.declared.PcmFormat.{PcmFormat}
 use Rattle.pcm.specs.declared.Error.the-variants.{InvalidFormat}
 use Rattle.pcm.specs.declared.Verdict.the-variants.{Accepted}
 use Rattle.pcm.specs.Formats.{formatAllowed}
-use Rattle.pcm.specs.Refusals.{ask, numberOf}
+use Rattle.pcm.specs.Refusals.{ask, numberOf, roomVerdict}
 use Rattle.pipeline.specs.Opening.{asked, openStages, openedOf, openCall}
 use Rattle.stream.specs.Opened.{FreshlyOpened, kindsIn}
 use Rattle.stream.specs.laws.Opening.{not-accepted, stages-opened, stages-chain}
@@ -86,7 +86,7 @@ module _ (f : PcmFormat) (recipe : List ℕ) (h : openCall f recipe .verdict ≡
 
   -- a chain writes itself back to the bytes it was opened from
   pub writes-back : Bytes recipe → (out : List ℕ) → length recipe ≤ length out → writeCall c out ≡ record { answer = answer.Written (length recipe); out = written recipe out }
-  unfolding writeCall writeVerdict
+  unfolding writeCall writeVerdict roomVerdict
   writes-back b out room =
       let kept : recipeOf (stagesOf c) ≡ recipe = recipe-of-kinds (stagesOf c) (stagesOf o) kinds-kept ∙ recipe-kept f recipe o as-answered b in
       rw (le-leb (c .count) 8 few, kept, le-leb (length recipe) (length out) room)

@@ -27,7 +27,7 @@ use Rattle.stage.specs.declared.StageKind.the-variants as kind
 use Rattle.stage.specs.declared.SoundMemory.{SoundMemory}
 use Rattle.stage.specs.Rooms.{Held, Serves}
 use Rattle.stage.specs.laws.Serving.{gain-asks, gain-serves, stereo-asks, stereo-serves, mono-asks, mono-serves, dc-asks, dc-serves, biquad-asks, biquad-serves, resample-asks, resample-serves, resample-fits}
-use Rattle.turns.specs.Turns.{Halves, sourceAt, targetAt, TurnAsks, TurnDoes, Takes}
+use Rattle.turns.specs.Turns.{Halves, sourceAt, targetAt, TurnAsks, TurnDoes, GainAsks, GainDoes, StereoAsks, StereoDoes, MonoAsks, MonoDoes, ResampleAsks, ResampleDoes, DcDoes, BiquadDoes, Takes, Makes}
 
 module _ (f : PcmFormat) (s : Stage) (i n : ℕ) (block : List ℕ) (h : Halves) (w : TurnAsks i n block h (Takes f s)) where
   abbrev source : List ℕ
@@ -41,7 +41,7 @@ module _ (f : PcmFormat) (s : Stage) (i n : ℕ) (block : List ℕ) (h : Halves)
 
   -- the stage's turn, where it kept this memory and delivered so many bytes
   abbrev Turned : SoundMemory → ℕ → Halves → Type 0
-  Turned m len h′ = TurnDoes i n block h h′ (λ (source before after : List ℕ). Serves f s (record { kind = s .kind; memory = m }) (framesOf (f .channels) source) len before after)
+  Turned m len h′ = TurnDoes i n block h h′ (Makes f s m len)
 
   turned : (m : SoundMemory) (len : ℕ) (h′ : Halves) → Serves f s (record { kind = s .kind; memory = m }) (framesOf (f .channels) source) len target (targetAt i h′)
       → (Does : List ℕ → List ℕ → List ℕ → Type 0) → TurnDoes i n block h h′ Does → Turned m len h′
@@ -53,26 +53,26 @@ module _ (f : PcmFormat) (s : Stage) (i n : ℕ) (block : List ℕ) (h : Halves)
   of-length m len after v = subst (λ (k : ℕ). Serves f s (record { kind = s .kind; memory = m }) (framesOf (f .channels) source) (len k) target after) (w .reads) v
 
   -- ---- gain
-  pub gain-turn-asks : (g : Gain) → s .kind ≡ kind.Gain g → TurnAsks i n block h (λ (source target : List ℕ). (length source % 2 ≡ 0) × (length source ≤ length target) × (natAbs (g .q15) ≤ 33554432))
+  pub gain-turn-asks : (g : Gain) → s .kind ≡ kind.Gain g → TurnAsks i n block h (GainAsks g)
   gain-turn-asks g e = record { reads = w .reads; asks = gain-asks f s source target (w .asks .0) (held-as _ e tt) g e }
 
-  pub gain-turned : (g : Gain) (h′ : Halves) → s .kind ≡ kind.Gain g → TurnDoes i n block h h′ (λ (source before after : List ℕ). after ≡ written (scaledBytes (g .q15) source) before) → Turned (s .memory) n h′
+  pub gain-turned : (g : Gain) (h′ : Halves) → s .kind ≡ kind.Gain g → TurnDoes i n block h h′ (GainDoes g) → Turned (s .memory) n h′
   gain-turned g h′ e d = turned (s .memory) n h′ (of-length (s .memory) (λ k. k) (targetAt i h′) (gain-serves f s source target (w .asks .0) (held-as _ e tt) g (targetAt i h′) e (d .does))) _ d
 
   -- ---- the channel stages
-  pub stereo-turn-asks : s .kind ≡ kind.MonoToStereo → TurnAsks i n block h (λ (source target : List ℕ). (length source % 2 ≡ 0) × (length source * 2 ≤ length target))
+  pub stereo-turn-asks : s .kind ≡ kind.MonoToStereo → TurnAsks i n block h StereoAsks
   stereo-turn-asks e = record { reads = w .reads; asks = stereo-asks f s source target (w .asks .0) (held-as _ e tt) e }
 
-  pub stereo-turned : (h′ : Halves) → s .kind ≡ kind.MonoToStereo → TurnDoes i n block h h′ (λ (source before after : List ℕ). after ≡ written (stereoBytes source) before) → Turned (s .memory) (n * 2) h′
+  pub stereo-turned : (h′ : Halves) → s .kind ≡ kind.MonoToStereo → TurnDoes i n block h h′ StereoDoes → Turned (s .memory) (n * 2) h′
   stereo-turned h′ e d = turned (s .memory) (n * 2) h′ (of-length (s .memory) (λ k. k * 2) (targetAt i h′) (stereo-serves f s source target (w .asks .0) (held-as _ e tt) (targetAt i h′) e (d .does))) _ d
 
   pub stereo-long : s .kind ≡ kind.MonoToStereo → n * 2 ≤ length target
   stereo-long e = subst (λ (k : ℕ). k * 2 ≤ length target) (w .reads) (stereo-asks f s source target (w .asks .0) (held-as _ e tt) e .1)
 
-  pub mono-turn-asks : s .kind ≡ kind.StereoToMono → TurnAsks i n block h (λ (source target : List ℕ). (length source % 4 ≡ 0) × (length source / 2 ≤ length target))
+  pub mono-turn-asks : s .kind ≡ kind.StereoToMono → TurnAsks i n block h MonoAsks
   mono-turn-asks e = record { reads = w .reads; asks = mono-asks f s source target (w .asks .0) (held-as _ e tt) e }
 
-  pub mono-turned : (h′ : Halves) → s .kind ≡ kind.StereoToMono → TurnDoes i n block h h′ (λ (source before after : List ℕ). after ≡ written (monoBytes source) before) → Turned (s .memory) (n / 2) h′
+  pub mono-turned : (h′ : Halves) → s .kind ≡ kind.StereoToMono → TurnDoes i n block h h′ MonoDoes → Turned (s .memory) (n / 2) h′
   mono-turned h′ e d = turned (s .memory) (n / 2) h′ (of-length (s .memory) (λ k. k / 2) (targetAt i h′) (mono-serves f s source target (w .asks .0) (held-as _ e tt) (targetAt i h′) e (d .does))) _ d
 
   -- ---- the filters
@@ -88,20 +88,20 @@ module _ (f : PcmFormat) (s : Stage) (i n : ℕ) (block : List ℕ) (h : Halves)
   of-kind k m len after e v = subst (λ (k : StageKind). Serves f s (record { kind = k; memory = m }) (framesOf (f .channels) source) len target after) (sym e) v
 
   pub dc-turned : (b : DcBlock) (m : FilterMemory) (h′ : Halves) → s .kind ≡ kind.DcBlock b
-      → TurnDoes i n block h h′ (λ (source before after : List ℕ). FilteredBlock (dcTick (b .r)) (f .channels) (s .memory .filter) source before after m)
+      → TurnDoes i n block h h′ (DcDoes b (f .channels) (s .memory .filter) m)
       → Turned (record { filter = m; resampler = s .memory .resampler }) n h′
   dc-turned b m h′ e d =
       turned _ n h′ (of-length _ (λ k. k) (targetAt i h′) (of-kind (kind.DcBlock b) _ (length source) (targetAt i h′) e (dc-serves f s source target (w .asks .0) (held-as _ e tt) b m (targetAt i h′) e (d .does)))) _ d
 
   pub biquad-turned : (b : Biquad) (m : FilterMemory) (h′ : Halves) → s .kind ≡ kind.Biquad b
-      → TurnDoes i n block h h′ (λ (source before after : List ℕ). FilteredBlock (biquadTick (b .coefficients)) (f .channels) (s .memory .filter) source before after m)
+      → TurnDoes i n block h h′ (BiquadDoes b (f .channels) (s .memory .filter) m)
       → Turned (record { filter = m; resampler = s .memory .resampler }) n h′
   biquad-turned b m h′ e d =
       turned _ n h′ (of-length _ (λ k. k) (targetAt i h′) (of-kind (kind.Biquad b) _ (length source) (targetAt i h′) e (biquad-serves f s source target (w .asks .0) (held-as _ e tt) b m (targetAt i h′) e (d .does)))) _ d
 
   -- ---- the resampler, from its state as it is handed on
   module _ (r : LinearResampler) (state : ResamplerState) (e : s .kind ≡ kind.Resample r) (same : state ≡ s .memory .resampler) (samples : Samples (s .memory .resampler .last)) where
-    pub resample-turn-asks : TurnAsks i n block h (λ (source target : List ℕ). Ready (f .channels) (r .«in_r») (r .«out_r») (resampled r state (framesOf (f .channels) source)) source target)
+    pub resample-turn-asks : TurnAsks i n block h (ResampleAsks r state (f .channels))
     resample-turn-asks = record {
       reads = w .reads;
       asks = subst (λ (t : ResamplerState). Ready (f .channels) (r .«in_r») (r .«out_r») (resampled r t (framesOf (f .channels) source)) source target) (sym same)
@@ -109,17 +109,17 @@ module _ (f : PcmFormat) (s : Stage) (i n : ℕ) (block : List ℕ) (h : Halves)
     }
 
     processed : (t : Resampled) (h′ : Halves)
-        → TurnDoes i n block h h′ (λ (source before after : List ℕ). Processed (resampled r state (framesOf (f .channels) source)) (stateAfter r state (framesOf (f .channels) source)) before after t)
+        → TurnDoes i n block h h′ (ResampleDoes r state (f .channels) t)
         → Processed (resampled r (s .memory .resampler) (framesOf (f .channels) source)) (stateAfter r (s .memory .resampler) (framesOf (f .channels) source)) target (targetAt i h′) t
     processed t h′ d = subst (λ (u : ResamplerState). Processed (resampled r u (framesOf (f .channels) source)) (stateAfter r u (framesOf (f .channels) source)) target (targetAt i h′) t) same (d .does)
 
     pub resample-turned : (t : Resampled) (h′ : Halves)
-        → TurnDoes i n block h h′ (λ (source before after : List ℕ). Processed (resampled r state (framesOf (f .channels) source)) (stateAfter r state (framesOf (f .channels) source)) before after t)
+        → TurnDoes i n block h h′ (ResampleDoes r state (f .channels) t)
         → Turned (record { filter = s .memory .filter; resampler = t .state }) (t .frames * (f .channels * 2)) h′
     resample-turned t h′ d =
         turned _ _ h′ (of-kind (kind.Resample r) _ (t .frames * (f .channels * 2)) (targetAt i h′) e (resample-serves f s source target (w .asks .0) (held-as _ e samples) r e t (targetAt i h′) (w .asks .1) (processed t h′ d))) _ d
 
     pub resample-long : (t : Resampled) (h′ : Halves)
-        → TurnDoes i n block h h′ (λ (source before after : List ℕ). Processed (resampled r state (framesOf (f .channels) source)) (stateAfter r state (framesOf (f .channels) source)) before after t)
+        → TurnDoes i n block h h′ (ResampleDoes r state (f .channels) t)
         → t .frames * (f .channels * 2) ≤ length target
     resample-long t h′ d = resample-fits f s source target (w .asks .0) (held-as _ e samples) r e t (targetAt i h′) (processed t h′ d)

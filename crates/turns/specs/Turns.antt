@@ -1,14 +1,30 @@
--- The block call (document 01, pipeline.rs and 'The questions'): from a chain and a call to all that is there afterwards. Definitions only.
+-- One stage's turn in a block (document 01, pipeline.rs): what it reads and writes, and what each kind asks and does. Definitions only.
 use mathlib.Core.List.{List}
-use Prim.Native.Nat.{ℕ, _%_}
+use Prim.Native.Nat.{ℕ, _*_, _/_, _%_, _≤_}
 use mathlib.Core.Path.{_≡_}
 use mathlib.Core.Bool.{cond}
 use lib.Dec.{eqb}
+use lib.IntN.{natAbs}
 use lib.ListN.{length, take}
 use Rattle.pcm.specs.declared.PcmFormat.{PcmFormat}
-use Rattle.pcm.specs.Frames.{FramesOf, framesOf}
+use Rattle.pcm.specs.Frames.{FramesOf, framesOf, written}
+use Rattle.filters.specs.declared.FilterMemory.{FilterMemory}
+use Rattle.filters.specs.Filters.{FilteredBlock}
+use Rattle.gain.specs.declared.Gain.{Gain}
+use Rattle.gain.specs.Gain.{scaledBytes}
+use Rattle.channels.specs.Channels.{stereoBytes, monoBytes}
+use Rattle.dc_block.specs.declared.DcBlock.{DcBlock}
+use Rattle.dc_block.specs.DcBlock.{dcTick}
+use Rattle.biquad.specs.declared.Biquad.{Biquad}
+use Rattle.biquad.specs.Recurrence.{biquadTick}
+use Rattle.rates.specs.declared.LinearResampler.{LinearResampler}
+use Rattle.rates.specs.declared.ResamplerState.{ResamplerState}
+use Rattle.resample.specs.declared.Resampled.{Resampled}
+use Rattle.resample.specs.Resample.{resampled, stateAfter}
+use Rattle.resample.specs.Stage.{Ready, Processed}
+use Rattle.stage.specs.declared.SoundMemory.{SoundMemory}
 use Rattle.stage.specs.declared.Stage.{Stage}
-use Rattle.stage.specs.Rooms.{Served}
+use Rattle.stage.specs.Rooms.{Served, Serves}
 
 -- ---- an accepted block
 -- the two halves that the caller lends
@@ -43,6 +59,42 @@ pub record TurnDoes (i n : ℕ) (block : List ℕ) (before after : Halves) (Does
   pub does : Does (sourceAt i n block before) (targetAt i before) (targetAt i after)
   pub other : otherAt i after ≡ otherAt i before
 
--- what a stage asks of its turn: frames of the format that reaches it, and the room that it wants
+-- ---- what each kind's own function asks of the bytes it reads and of its half, and what it does
+abbrev pub GainAsks : Gain → List ℕ → List ℕ → Type 0
+GainAsks g source target = (length source % 2 ≡ 0) × (length source ≤ length target) × (natAbs (g .q15) ≤ 33554432)
+
+abbrev pub GainDoes : Gain → List ℕ → List ℕ → List ℕ → Type 0
+GainDoes g source before after = after ≡ written (scaledBytes (g .q15) source) before
+
+abbrev pub StereoAsks : List ℕ → List ℕ → Type 0
+StereoAsks source target = (length source % 2 ≡ 0) × (length source * 2 ≤ length target)
+
+abbrev pub StereoDoes : List ℕ → List ℕ → List ℕ → Type 0
+StereoDoes source before after = after ≡ written (stereoBytes source) before
+
+abbrev pub MonoAsks : List ℕ → List ℕ → Type 0
+MonoAsks source target = (length source % 4 ≡ 0) × (length source / 2 ≤ length target)
+
+abbrev pub MonoDoes : List ℕ → List ℕ → List ℕ → Type 0
+MonoDoes source before after = after ≡ written (monoBytes source) before
+
+abbrev pub ResampleAsks : LinearResampler → ResamplerState → ℕ → List ℕ → List ℕ → Type 0
+ResampleAsks r state channels source target = Ready channels (r .«in_r») (r .«out_r») (resampled r state (framesOf channels source)) source target
+
+abbrev pub ResampleDoes : LinearResampler → ResamplerState → ℕ → Resampled → List ℕ → List ℕ → List ℕ → Type 0
+ResampleDoes r state channels t source before after = Processed (resampled r state (framesOf channels source)) (stateAfter r state (framesOf channels source)) before after t
+
+abbrev pub DcDoes : DcBlock → ℕ → FilterMemory → FilterMemory → List ℕ → List ℕ → List ℕ → Type 0
+DcDoes d channels filter next source before after = FilteredBlock (dcTick (d .r)) channels filter source before after next
+
+abbrev pub BiquadDoes : Biquad → ℕ → FilterMemory → FilterMemory → List ℕ → List ℕ → List ℕ → Type 0
+BiquadDoes f channels filter next source before after = FilteredBlock (biquadTick (f .coefficients)) channels filter source before after next
+
+-- ---- a stage of any kind
+-- it asks for frames of the format that reaches it, and the room that it wants
 abbrev pub Takes : PcmFormat → Stage → List ℕ → List ℕ → Type 0
 Takes f s source target = Served f s source target × FramesOf (f .channels) (framesOf (f .channels) source)
+
+-- it makes of them what its definition says, and keeps the memory that it says
+abbrev pub Makes : PcmFormat → Stage → SoundMemory → ℕ → List ℕ → List ℕ → List ℕ → Type 0
+Makes f s memory len source before after = Serves f s (record { kind = s .kind; memory = memory }) (framesOf (f .channels) source) len before after

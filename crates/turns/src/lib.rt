@@ -1,20 +1,10 @@
 // One stage's turn in a block: stage i + 1 reads the block or the n bytes that the stage before wrote, and writes to half a where i is
 // even, else to b.
 ghost use mathlib.Core.Path.{_≡_};
-ghost use mathlib.Core.List.{List};
-ghost use Prim.Native.Nat.{ℕ, _*_, _/_, _%_, _≤_};
-ghost use lib.IntN.{natAbs};
+ghost use Prim.Native.Nat.{_≤_};
 ghost use lib.ListN.{length};
-ghost use Rattle.pcm.specs.Frames.{framesOf, written};
-ghost use Rattle.filters.specs.Filters.{FilterBlock, FilteredBlock};
-ghost use Rattle.gain.specs.Gain.{scaledBytes};
-ghost use Rattle.channels.specs.Channels.{stereoBytes, monoBytes};
-ghost use Rattle.dc_block.specs.DcBlock.{dcTick};
-ghost use Rattle.biquad.specs.Recurrence.{biquadTick};
-ghost use Rattle.resample.specs.Resample.{resampled, stateAfter};
-ghost use Rattle.resample.specs.Stage.{Ready, Processed};
-ghost use Rattle.stage.specs.Rooms.{Serves};
-ghost use Rattle.turns.specs.Turns.{halves, evenSource, TurnAsks, TurnDoes, Takes};
+ghost use Rattle.filters.specs.Filters.{FilterBlock};
+ghost use Rattle.turns.specs.Turns.{halves, evenSource, TurnAsks, TurnDoes, GainAsks, GainDoes, StereoAsks, StereoDoes, MonoAsks, MonoDoes, ResampleAsks, ResampleDoes, DcDoes, BiquadDoes, Takes, Makes};
 use biquad::Biquad;
 use dc_block::DcBlock;
 use filters::FilterMemory;
@@ -42,8 +32,8 @@ fn even_source<'a>(i: usize, n: usize, block: &'a [u8], b: &'a [u8]) -> &'a [u8]
 }
 
 fn gain_turn(g: Gain, i: usize, n: usize, block: &[u8], a: &mut [u8], b: &mut [u8])
-    requires { ⌜ TurnAsks i n (now block) (halves (now a) (now b)) (λ (source target : List ℕ). (length source % 2 ≡ 0) × (length source ≤ length target) × (natAbs (g .q15) ≤ 33554432)) ⌝ }
-    ensures { λ _. ⌜ TurnDoes i n (now (block .entry)) (halves (now (a .entry)) (now (b .entry))) (halves (now (a .exit)) (now (b .exit))) (λ (source before after : List ℕ). after ≡ written (scaledBytes (g .q15) source) before) ⌝ }
+    requires { ⌜ TurnAsks i n (now block) (halves (now a) (now b)) (GainAsks g) ⌝ }
+    ensures { λ _. ⌜ TurnDoes i n (now (block .entry)) (halves (now (a .entry)) (now (b .entry))) (halves (now (a .exit)) (now (b .exit))) (GainDoes g) ⌝ }
 {
     if i % 2 == 0 {
         g.process(even_source(i, n, block, b), a);
@@ -53,8 +43,8 @@ fn gain_turn(g: Gain, i: usize, n: usize, block: &[u8], a: &mut [u8], b: &mut [u
 }
 
 fn stereo_turn(i: usize, n: usize, block: &[u8], a: &mut [u8], b: &mut [u8])
-    requires { ⌜ TurnAsks i n (now block) (halves (now a) (now b)) (λ (source target : List ℕ). (length source % 2 ≡ 0) × (length source * 2 ≤ length target)) ⌝ }
-    ensures { λ _. ⌜ TurnDoes i n (now (block .entry)) (halves (now (a .entry)) (now (b .entry))) (halves (now (a .exit)) (now (b .exit))) (λ (source before after : List ℕ). after ≡ written (stereoBytes source) before) ⌝ }
+    requires { ⌜ TurnAsks i n (now block) (halves (now a) (now b)) StereoAsks ⌝ }
+    ensures { λ _. ⌜ TurnDoes i n (now (block .entry)) (halves (now (a .entry)) (now (b .entry))) (halves (now (a .exit)) (now (b .exit))) StereoDoes ⌝ }
 {
     if i % 2 == 0 {
         channels::mono_to_stereo(even_source(i, n, block, b), a);
@@ -64,8 +54,8 @@ fn stereo_turn(i: usize, n: usize, block: &[u8], a: &mut [u8], b: &mut [u8])
 }
 
 fn mono_turn(i: usize, n: usize, block: &[u8], a: &mut [u8], b: &mut [u8])
-    requires { ⌜ TurnAsks i n (now block) (halves (now a) (now b)) (λ (source target : List ℕ). (length source % 4 ≡ 0) × (length source / 2 ≤ length target)) ⌝ }
-    ensures { λ _. ⌜ TurnDoes i n (now (block .entry)) (halves (now (a .entry)) (now (b .entry))) (halves (now (a .exit)) (now (b .exit))) (λ (source before after : List ℕ). after ≡ written (monoBytes source) before) ⌝ }
+    requires { ⌜ TurnAsks i n (now block) (halves (now a) (now b)) MonoAsks ⌝ }
+    ensures { λ _. ⌜ TurnDoes i n (now (block .entry)) (halves (now (a .entry)) (now (b .entry))) (halves (now (a .exit)) (now (b .exit))) MonoDoes ⌝ }
 {
     if i % 2 == 0 {
         channels::stereo_to_mono(even_source(i, n, block, b), a);
@@ -84,8 +74,8 @@ fn resample_turn(
     a: &mut [u8],
     b: &mut [u8],
 ) -> Resampled
-    requires { ⌜ TurnAsks i n (now block) (halves (now a) (now b)) (λ (source target : List ℕ). Ready channels (r .«in_r») (r .«out_r») (resampled r state (framesOf channels source)) source target) ⌝ }
-    ensures { λ t. ⌜ TurnDoes i n (now (block .entry)) (halves (now (a .entry)) (now (b .entry))) (halves (now (a .exit)) (now (b .exit))) (λ (source before after : List ℕ). Processed (resampled r state (framesOf channels source)) (stateAfter r state (framesOf channels source)) before after t) ⌝ }
+    requires { ⌜ TurnAsks i n (now block) (halves (now a) (now b)) (ResampleAsks r state channels) ⌝ }
+    ensures { λ t. ⌜ TurnDoes i n (now (block .entry)) (halves (now (a .entry)) (now (b .entry))) (halves (now (a .exit)) (now (b .exit))) (ResampleDoes r state channels t) ⌝ }
 {
     if i % 2 == 0 {
         return resample::process(r, state, channels, even_source(i, n, block, b), a);
@@ -104,7 +94,7 @@ fn dc_turn(
     b: &mut [u8],
 ) -> FilterMemory
     requires { ⌜ TurnAsks i n (now block) (halves (now a) (now b)) (FilterBlock channels) ⌝ }
-    ensures { λ m. ⌜ TurnDoes i n (now (block .entry)) (halves (now (a .entry)) (now (b .entry))) (halves (now (a .exit)) (now (b .exit))) (λ (source before after : List ℕ). FilteredBlock (dcTick (d .r)) channels filter source before after m) ⌝ }
+    ensures { λ m. ⌜ TurnDoes i n (now (block .entry)) (halves (now (a .entry)) (now (b .entry))) (halves (now (a .exit)) (now (b .exit))) (DcDoes d channels filter m) ⌝ }
 {
     if i % 2 == 0 {
         return d.process(even_source(i, n, block, b), a, channels, filter);
@@ -123,7 +113,7 @@ fn biquad_turn(
     b: &mut [u8],
 ) -> FilterMemory
     requires { ⌜ TurnAsks i n (now block) (halves (now a) (now b)) (FilterBlock channels) ⌝ }
-    ensures { λ m. ⌜ TurnDoes i n (now (block .entry)) (halves (now (a .entry)) (now (b .entry))) (halves (now (a .exit)) (now (b .exit))) (λ (source before after : List ℕ). FilteredBlock (biquadTick (f .coefficients)) channels filter source before after m) ⌝ }
+    ensures { λ m. ⌜ TurnDoes i n (now (block .entry)) (halves (now (a .entry)) (now (b .entry))) (halves (now (a .exit)) (now (b .exit))) (BiquadDoes f channels filter m) ⌝ }
 {
     if i % 2 == 0 {
         return f.process(even_source(i, n, block, b), a, channels, filter);
@@ -142,7 +132,7 @@ pub fn turn(
     b: &mut [u8],
 ) -> Applied
     requires { ⌜ TurnAsks i n (now block) (halves (now a) (now b)) (Takes format s) ⌝ }
-    ensures { λ r. ⌜ TurnDoes i n (now (block .entry)) (halves (now (a .entry)) (now (b .entry))) (halves (now (a .exit)) (now (b .exit))) (λ (source before after : List ℕ). Serves format s (record { kind = s .kind; memory = r .memory }) (framesOf (format .channels) source) (r .len) before after) ⌝ }
+    ensures { λ r. ⌜ TurnDoes i n (now (block .entry)) (halves (now (a .entry)) (now (b .entry))) (halves (now (a .exit)) (now (b .exit))) (Makes format s (r .memory) (r .len)) ⌝ }
 {
     let kind = s.kind;
     let memory = s.memory;

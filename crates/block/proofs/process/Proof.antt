@@ -21,6 +21,7 @@ use Rattle.block.specs.laws.Asking.{Asks, head-parts, asks-first, asks-f
 use Rattle.block.specs.laws.Reaching.{shorter-a}
 use Rattle.block.specs.laws.Stages.{next-less, withStages, Plays, turn-asks, stored, stayed, at-end, plays-first, copy-room, length-first}
 use Rattle.block.specs.laws.Concluding.{head-refused, refused-is, concludes}
+use Rattle.block.proofs.Telling.{with-told}
 use Rattle.block.proofs.process.Statement.{statement}
 use Rattle.block.proofs.process.Tie as tie
 
@@ -83,8 +84,9 @@ process-spec = tie.close (tie.spec
     (λ c κs. search needs)
     (λ c.
     let a = c .before .before .before .before .before .before .before .args in
-    refused-is (a .t1) (a .format) (a .timestamp) (a .block .now) (a .a .now) (a .b .now) _ _ _ (c .refused .ensures .0) (c .refused .ensures .1)
-    (head-refused (a .t1) (a .format) _ _ (sym (c .before .before .head-legal .ensures) ∙ not-true _ (c .before .if1 .taken))))
+    with-told (a .t1) (a .format) (a .timestamp) (a .block .now) (a .a .now) (a .b .now) _
+    (refused-is (a .t1) (a .format) (a .timestamp) (a .block .now) (a .a .now) (a .b .now) _ _ _ (c .refused .ensures .0) (c .refused .ensures .1)
+    (head-refused (a .t1) (a .format) _ _ (sym (c .before .before .head-legal .ensures) ∙ not-true _ (c .before .if1 .taken)))))
     (λ c κs. search needs)
     (λ c κs. let a = c .before .before .before .before .before .before .before .args in head-parts (a .t1 .format) (a .t1 .count) (sym (c .before .before .head-legal .ensures) ∙ not-false _ (c .before .if1 .left)) .channels)
     (λ c. asks-first _ _ _ _ _ _ _ _ (head c) (eight c) (c .begun .ensures))
@@ -100,7 +102,8 @@ process-spec = tie.close (tie.spec
     (λ c.
     let v = c .before .before .before .before in
     let a = s (v .before .before .before) .args in
-    refused-is (a .t1) (a .format) (a .timestamp) (a .block .now) (a .a .now) (a .b .now) _ _ _ (c .refused2 .ensures .0) (c .refused2 .ensures .1) (asked-all v ∙ c .before .before .verdict2 .given .1))
+    with-told (a .t1) (a .format) (a .timestamp) (a .block .now) (a .a .now) (a .b .now) _
+    (refused-is (a .t1) (a .format) (a .timestamp) (a .block .now) (a .a .now) (a .b .now) _ _ _ (c .refused2 .ensures .0) (c .refused2 .ensures .1) (asked-all v ∙ c .before .before .verdict2 .given .1)))
     (λ c. search needs)
     (λ c κs.
     let e = c .before in
@@ -143,5 +146,6 @@ process-spec = tie.close (tie.spec
     let l = c .before .before .before .before in
     let e = l .before .before .before .before .before in
     let a = s (b e) .args in
-    concludes (a .t1) (a .format) (a .timestamp) (a .block .now) (a .a .now) (a .b .now) (takes e) (eight (b e)) (bytes (b e)) _ (l .before .before .before .copy-unstaged .ensures) _ _ _ _
-    (at-end _ _ _ _ _ _ _ _ _ _ _ (l .loop2 .inv) (c .before .before .before .loop2-test .left)) (l .loop2 .chain) (l .loop2 .inv .chain) _ _ _ (c .before .before .count-up .ensures) (c .before .count-empty .ensures) (c .answered .ensures) (accepted e)))
+    with-told (a .t1) (a .format) (a .timestamp) (a .block .now) (a .a .now) (a .b .now) _
+    (concludes (a .t1) (a .format) (a .timestamp) (a .block .now) (a .a .now) (a .b .now) (takes e) (eight (b e)) (bytes (b e)) _ (l .before .before .before .copy-unstaged .ensures) _ _ _ _
+    (at-end _ _ _ _ _ _ _ _ _ _ _ (l .loop2 .inv) (c .before .before .before .loop2-test .left)) (l .loop2 .chain) (l .loop2 .inv .chain) _ _ _ (c .before .before .count-up .ensures) (c .before .count-empty .ensures) (c .answered .ensures) (accepted e))))

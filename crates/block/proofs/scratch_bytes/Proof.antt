@@ -15,6 +15,7 @@ use Rattle.questions.specs.Walk.{headLegal, sizedFrom, walked}
 use Rattle.block.specs.laws.Walking.{scratch-is, scratch-refused}
 use Rattle.pcm.specs.laws.Lists.{unmapped}
 use Rattle.block.specs.laws.Asking.{Asks, head-parts, asks-first, asks-fits, asks-next, asks-end}
+use Rattle.block.proofs.Telling.{with-value}
 use Rattle.block.proofs.scratch_bytes.Statement.{statement}
 use Rattle.block.proofs.scratch_bytes.Tie as tie
 
@@ -50,7 +51,7 @@ scratch-bytes-spec = tie.close (tie.spec
     Inv-loop
     μ-loop
     (λ c κs. search needs)
-    (λ c. scratch-refused _ _ (sym (c .before .head-legal .ensures) ∙ not-true _ (c .if1 .taken)))
+    (λ c. with-value _ _ _ (scratch-refused _ _ (sym (c .before .head-legal .ensures) ∙ not-true _ (c .if1 .taken))))
     (λ c κs. let a = c .before .before .before .args in head-parts (a .t1 .format) (a .t1 .count) (sym (c .before .head-legal .ensures) ∙ not-false _ (c .if1 .left)) .channels)
     (λ c. asks-first _ _ _ _ _ _ _ _ (head c) (eight c) (c .begun .ensures))
     (λ c. search needs)
@@ -65,7 +66,7 @@ scratch-bytes-spec = tie.close (tie.spec
     (λ c. record { fits = omega (arith, c .before .before .before .before .before .loop .inv .within .largest) })
     (λ c.
     let v = c .before .before .before in
-    ap (λ (x : Verdict). scratchAnswer x (2 * v .before .before .loop .walk .largest)) (sym (c .before .asked2 .given .1)) ∙ answers v)
+    with-value _ _ _ (ap (λ (x : Verdict). scratchAnswer x (2 * v .before .before .loop .walk .largest)) (sym (c .before .asked2 .given .1)) ∙ answers v))
     (λ c.
     let v = c .before .before .before in
-    ap (λ (x : Verdict). scratchAnswer x (2 * v .before .before .loop .walk .largest)) (sym (c .before .enum-told .given .1)) ∙ answers v))
+    with-value _ _ _ (ap (λ (x : Verdict). scratchAnswer x (2 * v .before .before .loop .walk .largest)) (sym (c .before .enum-told .given .1)) ∙ answers v)))

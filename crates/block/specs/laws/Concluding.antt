@@ -1,17 +1,15 @@
 -- From the verdict and the end of the walk that plays to the block call's result. Assumes nothing.
 use mathlib.Core.Path.{_≡_, refl, sym, ap, ap₂, _∙_}
-use mathlib.Core.Bool.{Bool, true, false, _&&_}
+use mathlib.Core.Bool.{false}
 use mathlib.Core.List.{List, _++_}
 use Prim.Native.Nat.{ℕ, zero, suc}
 use native.Mathlib.Nat.{suc-ne-zero}
-use lib.Dec.{leb}
 use lib.ListN.{length, drop}
 use Rattle.pcm.specs.declared.PcmFormat.{PcmFormat}
 use Rattle.pcm.specs.declared.Error.{Error}
 use Rattle.pcm.specs.declared.Error.the-variants.{InvalidFormat}
 use Rattle.pcm.specs.declared.Verdict.{Verdict}
 use Rattle.pcm.specs.declared.Verdict.the-variants.{Accepted, Refused}
-use Rattle.pcm.specs.Formats.{formatAllowed}
 use Rattle.pcm.specs.Samples.{Bytes}
 use Rattle.pcm.specs.Frames.{framesOf, bytesOf}
 use Rattle.stage.specs.declared.Stage.{Stage}
@@ -22,22 +20,18 @@ use Rattle.block.specs.declared.Answer.the-variants as answers
 use Rattle.block.specs.Chain.{chainOut, chainNext}
 use Rattle.pipeline.specs.Reset.{formatLeaving}
 use Rattle.turns.specs.Turns.{Halves, halves}
-use Rattle.block.specs.BlockCall.{legal, suited, blockVerdict, halvesAfter, shorter, countedUp, countedChain, outputAnswer, lastHalf, accepted, concluded, blockCall}
+use Rattle.block.specs.BlockCall.{blockVerdict, halvesAfter, shorter, countedUp, countedChain, outputAnswer, lastHalf, accepted, concluded, blockCall}
 use Rattle.pipeline.specs.WritingBack.{stagesOf}
 use Rattle.questions.specs.Walk.{headLegal}
 use Rattle.block.specs.Turns.{Accepts, unstaged, countedIf}
 use Rattle.block.specs.laws.Turns.{Ended}
 use Rattle.block.specs.laws.Stages.{withStages, halves-end}
+use Rattle.block.specs.laws.Walking.{head-illegal}
 
 -- ---- refusals
 pub head-refused : (c : Pipeline) (format : PcmFormat) (size short : ℕ) → headLegal (c .format) (c .count) ≡ false → blockVerdict c format size short ≡ Refused InvalidFormat
-unfolding blockVerdict legal
-head-refused c format size short h = rw (go (leb (c .count) 8) (formatAllowed (c .format)) h)
-  where
-    go : (t u : Bool) → (t && u) ≡ false → (t && (u && suited (c .format) (stagesOf c))) ≡ false
-    go true true e = cc
-    go true false e = refl
-    go false u e = refl
+unfolding blockVerdict
+head-refused c format size short h = rw (head-illegal c h)
 
 module _ (c : Pipeline) (format : PcmFormat) (t : ℕ) (block a b : List ℕ) where
   pub refused-is : (e : Error) (chain : Pipeline) (answer : Answer) → chain ≡ c → answer ≡ answers.Refused e → blockVerdict c format (length block) (shorter a b) ≡ Refused e

@@ -24,7 +24,7 @@ use Rattle.questions.specs.declared.Question.the-variants.{Block, AnyState}
 use Rattle.questions.specs.declared.Due.{Due}
 use Rattle.questions.specs.declared.Walk.{Walk}
 use Rattle.block.specs.declared.Scratch.the-variants as scratch
-use Rattle.block.specs.BlockCall.{legal, suited, roomsVerdict, halvesVerdict, sizeAsked, blockVerdict, largestRoom, scratchAnswer, scratchBytes}
+use Rattle.block.specs.BlockCall.{legal, suited, roomsVerdict, halvesVerdict, sizeAsked, blockVerdict, largestRoom, scratchAnswer, scratchFigure, scratchBytes}
 use Rattle.pipeline.specs.WritingBack.{stagesOf}
 use Rattle.questions.specs.Walk.{wholeFrames, sameFormat, larger, headLegal, sizeVerdict, blockFrames, dueOf, firstShort, roomOf, further, illegal, stepped, copyRoom, begun, walked, sizedFrom, roomAfter, verdictFrom}
 use Rattle.block.specs.laws.Steps.{room-none, room-short, room-next}
@@ -399,14 +399,18 @@ module _ (c : Pipeline) (format : PcmFormat) (size shorter : ℕ) (head : headLe
       sized-here h = parts (walked Block shorter start (stagesOf c) .legal) h .1
 
 -- ---- and `scratch_bytes`' figure
-pub scratch-refused : (c : Pipeline) (size : ℕ) → headLegal (c .format) (c .count) ≡ false → scratch.Refused InvalidFormat ≡ scratchBytes c size
-unfolding scratchBytes legal
-scratch-refused c size h = rw (go (leb (c .count) 8) (formatAllowed (c .format)) h)
+pub head-illegal : (c : Pipeline) → headLegal (c .format) (c .count) ≡ false → legal c ≡ false
+unfolding legal
+head-illegal c h = go (leb (c .count) 8) (formatAllowed (c .format)) h
   where
     go : (t u : Bool) → (t && u) ≡ false → (t && (u && suited (c .format) (stagesOf c))) ≡ false
     go true true e = cc
     go true false e = refl
     go false u e = refl
+
+pub scratch-refused : (c : Pipeline) (size : ℕ) → headLegal (c .format) (c .count) ≡ false → scratch.Refused InvalidFormat ≡ scratchBytes c size
+unfolding scratchBytes
+scratch-refused c size h = rw (head-illegal c h)
 
 same-figure : (v : Verdict) (m n : ℕ) → (v ≡ Accepted → m ≡ n) → scratchAnswer v m ≡ scratchAnswer v n
 same-figure Accepted m n h = ap scratch.Bytes (h refl)
@@ -453,5 +457,5 @@ module _ (c : Pipeline) (size : ℕ) (head : headLegal (c .format) (c .count) �
   unfolding scratchBytes
   scratch-is =
       same-figure (sizedFrom (c .format) size (walked AnyState size first (stagesOf c))) _ _ (λ h. ap (λ (n : ℕ). 2 * n) (figure-is h))
-      ∙ ap (λ (v : Verdict). scratchAnswer v (2 * larger size (largestRoom (c .format) (stagesOf c) (size / (c .format .channels * 2)))))
+      ∙ ap (λ (v : Verdict). scratchAnswer v (scratchFigure c size))
       (sym (asked-is c size head AnyState size first Accepted first-legal first-format ∙ after-none (sizedFrom (c .format) size (walked AnyState size first (stagesOf c)))))

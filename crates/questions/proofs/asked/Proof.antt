@@ -30,7 +30,7 @@ asked-spec = tie.close (tie.spec
     (λ c κs. search needs)
     (λ c κs.
     let s = c .before .before .before .before in
-    (s .pre .0, s .pre .1, suits-bounded _ _ _ (sym (c .before .stage-suits .ensures) ∙ c .if2 .taken)))
+    (s .pre, suits-bounded _ _ _ (sym (c .before .stage-suits .ensures) ∙ c .if2 .taken)))
     (λ c. passes _ _ _ _ _ (c .before .before .before .if1 .taken) (sym (c .before .before .stage-suits .ensures) ∙ c .before .if2 .taken) (c .onward .ensures))
     (λ c. stops _ _ _ _ (c .before .before .if1 .taken) (sym (c .before .stage-suits .ensures) ∙ c .if2 .left))
     (λ c. stopped _ _ _ _ (c .if1 .left)))

@@ -38,7 +38,7 @@ onward-spec = tie.close (tie.spec
     (λ c.
     let d = c .before .before in
     let s = d .before .before .before in
-    record { fits = omega (arith, fits (s .args .walk) (s .args .s) (s .args .question) 0 _ _ _ (d .before .format-after .ensures) (d .stage-due .ensures) (c .before .frame-bytes .ensures) (s .pre .0) (s .pre .1) (s .pre .2)) })
+    record { fits = omega (arith, fits (s .args .walk) (s .args .s) (s .args .question) 0 _ _ _ (d .before .format-after .ensures) (d .stage-due .ensures) (c .before .frame-bytes .ensures) (s .pre .0 .0) (s .pre .0 .1) (s .pre .1)) })
     (λ c κs. search needs)
     (λ c κs. search needs)
     (λ c.
