@@ -41,10 +41,11 @@ pub enum Answer {
 }
 
 // Document 01's number and values of an answer. Outcome: 0 refused, 1 sound, 2 nothing yet; what follows it is zero but for sound.
+#[repr(C)]
 pub struct Told {
     pub number: u16,
-    pub needed: usize,
     pub outcome: u8,
+    pub needed: usize,
     pub rate: u32,
     pub channels: u16,
     pub timestamp: u64,

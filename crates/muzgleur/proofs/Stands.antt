@@ -26,7 +26,8 @@ use Rattle.chain_words.specs.Layout.{chainAt, stands, noChain, chainOfWords}
 use Rattle.chain_words.specs.laws.Chains.{stands-long}
 use Rattle.chain_words.specs.laws.Keeping.{KeptStage, walk-stands}
 use Rattle.word_block.specs.Words.{SettingsStay, WordsAfter}
-use Rattle.muzgleur.specs.Results.{soundWords, blockResult}
+use Rattle.block.specs.Told.{answerTold}
+use Rattle.muzgleur.specs.Results.{soundWords}
 
 kinds-clear : (l : List Stage) → kindsOf (map stageClear l) ≡ kindsOf l
 kinds-clear [] = refl
@@ -81,7 +82,7 @@ module _ (w : List ℕ) where
 stay-all : (w : List ℕ) → SettingsStay w w
 stay-all w = record { long = refl; head = λ j h. refl; seventh = refl; settings = λ i j h. refl; spare = λ j h. refl }
 
-pub block-words : (x : Answer) (w w′ : List ℕ) → WordsAfter x w w′ → (blockResult x .outcome ≡ 0 → w′ ≡ w) × SettingsStay w w′
+pub block-words : (x : Answer) (w w′ : List ℕ) → WordsAfter x w w′ → (answerTold x .outcome ≡ 0 → w′ ≡ w) × SettingsStay w w′
 block-words (answer.Output f timestamp side len) w w′ h = (λ e. absurd (let z : ⊥ = omega arith in z), h)
 block-words answer.NothingYet w w′ h = (λ e. absurd (let z : ⊥ = omega arith in z), h)
 block-words (answer.Refused e) w w′ h = (λ z. h, subst (SettingsStay w) (sym h) (stay-all w))

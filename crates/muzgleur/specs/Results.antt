@@ -1,4 +1,4 @@
--- What the exported calls answer and leave in the words: number and values for each case of the library's answers (document 01, 'The questions'). Definitions only.
+-- What the exported calls answer and leave in the words. Definitions only.
 use mathlib.Core.Bool.{Bool, cond}
 use mathlib.Core.List.{List}
 use Prim.Native.Nat.{ℕ}
@@ -11,24 +11,17 @@ use Rattle.pcm.specs.Frames.{written}
 use Rattle.pcm.specs.Refusals.{refusal}
 use Rattle.pipeline.specs.declared.Pipeline.{Pipeline}
 use Rattle.pipeline.specs.declared.Opened.{Opened}
-use Rattle.pipeline.specs.declared.WriteAnswer.{WriteAnswer}
-use Rattle.pipeline.specs.declared.WriteAnswer.the-variants as write
 use Rattle.pipeline.specs.Reset.{resetCall}
 use Rattle.pipeline.specs.WritingBack.{stagesOf}
-use Rattle.block.specs.declared.Half.{Half}
-use Rattle.block.specs.declared.Half.the-variants as half
-use Rattle.block.specs.declared.Answer.{Answer}
-use Rattle.block.specs.declared.Answer.the-variants as answer
+use Rattle.block.specs.declared.Told.{Told}
 use Rattle.block.specs.declared.Scratch.{Scratch}
-use Rattle.block.specs.declared.Scratch.the-variants as scratch
 use Rattle.block.specs.BlockCall.{Result}
+use Rattle.block.specs.Told.{answerTold, scratchValued}
 use Rattle.chain_words.specs.Kept.{walked}
 use Rattle.chain_words.specs.Layout.{wordsOf, stands, chainOfWords}
-use Rattle.muzgleur.specs.declared.BlockResult.{BlockResult}
 use Rattle.muzgleur.specs.declared.CounterResult.{CounterResult}
 use Rattle.muzgleur.specs.declared.Format.{Format}
 use Rattle.muzgleur.specs.declared.ScratchResult.{ScratchResult}
-use Rattle.muzgleur.specs.declared.WriteResult.{WriteResult}
 
 -- 0 or a refusal's number, and the words afterwards
 pub record Outcome : Type 0 where
@@ -45,30 +38,15 @@ abbrev pub openOutcome : List ℕ → Opened → Outcome
 openOutcome w o = cond (leb 152 (length w)) (openedWords w (o .verdict) (o .chain)) (record { number = 1; words = w })
 
 -- ---- a block
--- 0 is half a, 1 is half b
-abbrev pub halfNumber : Half → ℕ
-halfNumber half.A = 0
-halfNumber half.B = 1
-
--- outcome: 0 refused, 1 sound, 2 nothing yet; zero where there is no value
-abbrev pub silent : ℕ → ℕ → ℕ → BlockResult
-silent number outcome needed = record { number = number; outcome = outcome; needed = needed; rate = 0; channels = 0; timestamp = 0; half = 0; len = 0 }
-
-abbrev pub blockResult : Answer → BlockResult
-blockResult (answer.Output f timestamp side len) =
-    record { number = 0; outcome = 1; needed = 0; rate = f .rate; channels = f .channels; timestamp = timestamp; half = halfNumber side; len = len }
-blockResult answer.NothingYet = silent 0 2 0
-blockResult (answer.Refused e) = silent (refusal e .number) 0 (refusal e .needed)
-
 -- the answer, the chain that the words stand for, and both halves afterwards
 pub record BlockOutcome : Type 0 where
-  pub result : BlockResult
+  pub result : Told
   pub chain : Pipeline
   pub a : List ℕ
   pub b : List ℕ
 
 abbrev pub blockOutcome : Result → BlockOutcome
-blockOutcome r = record { result = blockResult (r .answer); chain = r .chain; a = r .a; b = r .b }
+blockOutcome r = record { result = answerTold (r .answer); chain = r .chain; a = r .a; b = r .b }
 
 -- ---- the other calls
 -- the memories of the stages in use and both counters to their words; every other word stays
@@ -86,9 +64,4 @@ abbrev pub formatOf : PcmFormat → Format
 formatOf f = record { rate = f .rate; channels = f .channels }
 
 abbrev pub scratchResult : Scratch → ScratchResult
-scratchResult (scratch.Bytes n) = record { number = 0; value = n }
-scratchResult (scratch.Refused e) = record { number = refusal e .number; value = 0 }
-
-abbrev pub writeResult : WriteAnswer → WriteResult
-writeResult (write.Written n) = record { number = 0; needed = 0; len = n }
-writeResult (write.Refused e) = record { number = refusal e .number; needed = refusal e .needed; len = 0 }
+scratchResult s = record { number = scratchValued s .number; value = scratchValued s .value }

@@ -37,6 +37,7 @@ pub enum WriteAnswer {
 }
 
 // Document 01's number, needed and length of a WriteAnswer.
+#[repr(C)]
 pub struct WriteTold {
     pub number: u16,
     pub needed: usize,

@@ -10,18 +10,18 @@ use Rattle.pipeline.specs.Reset.{resetCall}
 use Rattle.block.specs.BlockCall.{blockCall, frontOf}
 use Rattle.stream.specs.Calls.{Call, block, reset}
 use Rattle.chain_words.specs.Layout.{chainOfWords}
-use Rattle.muzgleur.specs.declared.BlockResult.{BlockResult}
+use Rattle.block.specs.declared.Told.{Told}
 use Rattle.muzgleur.specs.Results.{Outcome, blockOutcome, resetOutcome}
 
 -- the output that a program takes: where the outcome is 1, len bytes at the front of the half named
-abbrev pub taken : BlockResult → List ℕ → List ℕ → List ℕ
+abbrev pub taken : Told → List ℕ → List ℕ → List ℕ
 taken r a b = cond (eqb (r .outcome) 1) (frontOf (r .len) (cond (eqb (r .half) 0) a b)) []
 
 -- Calls one after another on words, from the words and the output joined so far to those afterwards. The facts of each call are those
 -- that muzgleur_block and muzgleur_reset promise
 pub data OnWords : List ℕ → List ℕ → List Call → List ℕ → List ℕ → Type 0 where
   none : {w joined : List ℕ} → OnWords w joined [] w joined
-  played : {w joined w′ joined′ : List ℕ} {calls : List Call} (format : PcmFormat) (timestamp : ℕ) (bytes a b : List ℕ) (result : BlockResult) (w₁ a₁ b₁ : List ℕ)
+  played : {w joined w′ joined′ : List ℕ} {calls : List Call} (format : PcmFormat) (timestamp : ℕ) (bytes a b : List ℕ) (result : Told) (w₁ a₁ b₁ : List ℕ)
       → record { result = result; chain = chainOfWords w₁; a = a₁; b = b₁ } ≡ blockOutcome (blockCall (chainOfWords w) format timestamp bytes a b)
       → OnWords w₁ (joined ++ taken result a₁ b₁) calls w′ joined′
       → OnWords w joined (block format timestamp bytes a b ∷ calls) w′ joined′

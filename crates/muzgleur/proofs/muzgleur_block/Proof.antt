@@ -10,8 +10,8 @@ returns : tie.Need-returns
 returns c =
     let p = c .before .before .before .before .before .before .before in
     let w = p .before .before .before .before .before .before .before .before .args .chain .now in (
-      rw (c .block-result .ensures) (ap blockOutcome (p .process .ensures .0)),
-      rw (c .block-result .ensures) (block-words (p .process .result) w _ (p .process .ensures .1)),
+      rw (c .told .ensures) (ap blockOutcome (p .process .ensures .0)),
+      rw (c .told .ensures) (block-words (p .process .result) w _ (p .process .ensures .1)),
     )
 
 pub muzgleur-block-spec : {M : Type 1} → statement M

@@ -9,14 +9,15 @@ use Rattle.block.specs.declared.Answer.the-variants as answer
 use Rattle.block.specs.BlockCall.{Result, blockCall}
 use Rattle.stream.specs.Calls.{Call, callOutput, afterCalls}
 use Rattle.chain_words.specs.Layout.{chainOfWords}
-use Rattle.muzgleur.specs.Results.{BlockOutcome, blockResult}
+use Rattle.block.specs.Told.{answerTold}
+use Rattle.muzgleur.specs.Results.{BlockOutcome}
 use Rattle.word_stream.specs.OnWords.{taken, OnWords, none, played, cleared}
 
 -- a program takes what the call's answer names
-taken-is : (r : Result) → taken (blockResult (r .answer)) (r .a) (r .b) ≡ callOutput r
+taken-is : (r : Result) → taken (answerTold (r .answer)) (r .a) (r .b) ≡ callOutput r
 taken-is r = go (r .answer)
   where
-    go : (x : Answer) → taken (blockResult x) (r .a) (r .b) ≡ callOutput (record { chain = r .chain; answer = x; a = r .a; b = r .b })
+    go : (x : Answer) → taken (answerTold x) (r .a) (r .b) ≡ callOutput (record { chain = r .chain; answer = x; a = r .a; b = r .b })
     go (answer.Output f timestamp half.A len) = refl
     go (answer.Output f timestamp half.B len) = refl
     go answer.NothingYet = refl
