@@ -1,8 +1,8 @@
 -- The biquad's recurrence (document 01, biquad.rs): each operation rounded once in binary32, left to right. Definitions only.
-use lib.IntN.{ℤ, pos}
+use lib.IntN.{ℤ}
 use lib.Ieee.{Float, binary32, ofInt, ofBits}
 use Rattle.floats.specs.Floats.{patternOf}
-use Rattle.floats.specs.Operations.{plusZero, _+₃₂_, _-₃₂_, _*₃₂_}
+use Rattle.floats.specs.Operations.{_+₃₂_, _-₃₂_, _*₃₂_}
 use Rattle.filters.specs.Filters.{Taps}
 use Rattle.cookbook.specs.declared.Coefficients.{Coefficients}
 use Rattle.biquad.specs.declared.CoefficientBits.{CoefficientBits}
@@ -14,10 +14,6 @@ recurrence k x x1 x2 y1 y2 = (((k .b0 *₃₂ x +₃₂ k .b1 *₃₂ x1) +₃�
 -- a channel after the sample x: x2 takes x1, x1 takes x, y2 takes y1, y1 takes y
 unfoldable pub biquadTick : Coefficients → Taps → ℤ → Taps
 biquadTick k t x = record { x1 = ofInt binary32 x; x2 = t .x1; y1 = recurrence k (ofInt binary32 x) (t .x1) (t .x2) (t .y1) (t .y2); y2 = t .y1 }
-
--- the flat filter is 1, 0, 0, 0, 0
-abbrev pub identity : Coefficients
-identity = record { b0 = ofInt binary32 (pos 1); b1 = plusZero; b2 = plusZero; a1 = plusZero; a2 = plusZero }
 
 -- the floats of five patterns, and the patterns of five floats
 abbrev pub floats : CoefficientBits → Coefficients

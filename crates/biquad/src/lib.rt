@@ -1,7 +1,8 @@
 // Second-order filters in direct form I (biquad.rs).
 ghost use mathlib.Core.Path.{_≡_};
 ghost use Rattle.filters.specs.Filters.{FilterBlock, FilteredBlock};
-ghost use Rattle.biquad.specs.Recurrence.{identity, recurrence, biquadTick, patterns, floats};
+ghost use Rattle.cookbook.specs.Cookbook.{identity};
+ghost use Rattle.biquad.specs.Recurrence.{recurrence, biquadTick, patterns, floats};
 use cookbook::Coefficients;
 use filters::FilterMemory;
 
@@ -43,7 +44,7 @@ impl Biquad {
     pub fn flat(rate: u32) -> Biquad
         ensures { λ b. ⌜ b ≡ record { rate = rate; coefficients = identity; bits = patterns identity } ⌝ }
     {
-        Biquad::new(rate, Coefficients::IDENTITY)
+        Biquad::new(rate, Coefficients::flat())
     }
 
     // A filter of the coefficients with these bits, of any value.

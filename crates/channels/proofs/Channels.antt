@@ -1,4 +1,4 @@
--- Laws of Channels.
+-- A mix is as long as each of its inputs. Assumes nothing.
 use mathlib.Core.Path.{_≡_, refl, sym, ap, _∙_}
 use mathlib.Core.List.{List, [], _∷_}
 use Prim.Native.Nat.{ℕ, suc, _/_, _%_}

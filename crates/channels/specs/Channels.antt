@@ -1,4 +1,4 @@
--- channels.rs: mono to stereo, stereo to mono, and a saturating mix (document 01). Assumes nothing.
+-- Mono to stereo, stereo to mono, and a saturating mix (document 01, channels.rs). Definitions only.
 use mathlib.Core.Bool.{_&&_}
 use mathlib.Core.List.{List, [], _∷_, map}
 use Prim.Native.Nat.{ℕ, _%_}

@@ -1,4 +1,4 @@
--- What the definitions come to: the chief theorems of this crate. Assumes nothing.
+-- mix_i16's questions by their answers (document 01, 'The questions'): the chief theorems of this crate. Assumes nothing.
 use mathlib.Core.Path.{_≡_}
 use mathlib.Core.List.{List}
 use Prim.Native.Nat.{ℕ, _%_, _≤_}
@@ -9,7 +9,6 @@ use Rattle.pcm.specs.declared.Error.the-variants.{InvalidGeometry}
 use Rattle.pcm.specs.Refusals.{roomVerdict}
 use Rattle.channels.specs.Channels.{mixVerdict}
 
--- ---- the questions by their answers
 module _ (a b out : List ℕ) where
   pub mix-unequal : (length a ≡ length b → ⊥) → mixVerdict a b out ≡ Refused InvalidGeometry
   unfolding mixVerdict

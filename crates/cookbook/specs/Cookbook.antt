@@ -3,17 +3,21 @@
 use Prim.Native.Nat.{ℕ}
 use mathlib.Core.Bool.{Bool, true, false, cond, _&&_}
 use lib.IntN.{pos}
-use lib.Ieee.{Float, inf, binary64, ofInt, neg, lt, le}
+use lib.Ieee.{Float, inf, binary32, binary64, ofInt, neg, lt, le}
 use Rattle.pcm.specs.declared.Error.the-variants.{InvalidFormat}
 use Rattle.floats.specs.Floats.{narrowed}
-use Rattle.floats.specs.Operations.{_+₆₄_, _-₆₄_, _*₆₄_, _/₆₄_}
+use Rattle.floats.specs.Operations.{plusZero, _+₆₄_, _-₆₄_, _*₆₄_, _/₆₄_}
+use Rattle.pcm.specs.declared.Verdict.{Verdict}
+use Rattle.pcm.specs.declared.Verdict.the-variants.{Accepted}
 use Rattle.pcm.specs.Formats.{rateAllowed}
+use Rattle.pcm.specs.Refusals.{refusal, ask, numberOf, ifAccepted}
 use Rattle.cookbook.specs.declared.BiquadKind.{BiquadKind}
 use Rattle.cookbook.specs.declared.BiquadKind.the-variants.{LowPass, HighPass, Peak, Notch}
 use Rattle.cookbook.specs.declared.Section.{Section}
 use Rattle.cookbook.specs.declared.Coefficients.{Coefficients}
 use Rattle.cookbook.specs.declared.DesignAnswer.{DesignAnswer}
 use Rattle.cookbook.specs.declared.DesignAnswer.the-variants.{Designed, Refused}
+use Rattle.cookbook.specs.declared.DesignTold.{DesignTold}
 
 abbrev pub zero : Float
 zero = ofInt binary64 (pos 0)
@@ -37,13 +41,13 @@ quality (HighPass f0 q) = q
 quality (Peak f0 q db) = q
 quality (Notch f0 q) = q
 
--- f0 above 0 and below rate / 2, q above 0, the cosine from -1 to 1, the sine from 0 to 1, and for Peak a finite and above 0.
+-- f0 above 0 and below rate / 2, q above 0, the cosine from -1 to 1, the sine from 0 to 1.
 -- A NaN is neither below nor above anything, nor equal to it
-unfoldable pub frequencyAllowed : BiquadKind → ℕ → Bool
-frequencyAllowed kind rate = lt zero (frequency kind) && lt (frequency kind) (ofInt binary64 (pos rate) /₆₄ two)
+unfoldable pub frequencyAllowed : Float → ℕ → Bool
+frequencyAllowed f0 rate = lt zero f0 && lt f0 (ofInt binary64 (pos rate) /₆₄ two)
 
-unfoldable pub qualityAllowed : BiquadKind → Bool
-qualityAllowed kind = lt zero (quality kind)
+unfoldable pub qualityAllowed : Float → Bool
+qualityAllowed q = lt zero q
 
 unfoldable pub cosineAllowed : Float → Bool
 cosineAllowed cosine = le (neg one) cosine && le cosine one
@@ -51,15 +55,26 @@ cosineAllowed cosine = le (neg one) cosine && le cosine one
 unfoldable pub sineAllowed : Float → Bool
 sineAllowed sine = le zero sine && le sine one
 
-unfoldable pub gainAllowed : BiquadKind → Float → Bool
+-- the settings that every kind has
+unfoldable pub settingsAllowed : Float → Float → ℕ → Float → Float → Bool
+settingsAllowed f0 q rate sine cosine = rateAllowed rate && (frequencyAllowed f0 rate && (qualityAllowed q && (cosineAllowed cosine && sineAllowed sine)))
+
+-- for Peak a finite and above 0
+unfoldable pub factorAllowed : Float → Bool
+factorAllowed a = lt zero a && lt a (inf false)
+
+abbrev pub gainAllowed : BiquadKind → Float → Bool
 gainAllowed (LowPass f0 q) a = true
 gainAllowed (HighPass f0 q) a = true
-gainAllowed (Peak f0 q db) a = lt zero a && lt a (inf false)
+gainAllowed (Peak f0 q db) a = factorAllowed a
 gainAllowed (Notch f0 q) a = true
 
 unfoldable pub designAllowed : BiquadKind → ℕ → Float → Float → Float → Bool
-designAllowed kind rate sine cosine a =
-    rateAllowed rate && (frequencyAllowed kind rate && (qualityAllowed kind && (cosineAllowed cosine && (sineAllowed sine && gainAllowed kind a))))
+designAllowed kind rate sine cosine a = settingsAllowed (frequency kind) (quality kind) rate sine cosine && gainAllowed kind a
+
+-- sin(w0) / (2 * Q)
+unfoldable pub alphaOf : Float → Float → Float
+alphaOf sine q = sine /₆₄ (two *₆₄ q)
 
 -- the cookbook's LPF, HPF, peakingEQ and notch: c is cos(w0), α is sin(w0) / (2 * Q), A is 10^(dBgain / 40)
 unfoldable pub cookbook : BiquadKind → Float → Float → Float → Section
@@ -107,10 +122,32 @@ normalised s =
       a2 = narrowed (s .a2 /₆₄ s .a0);
     }
 
--- the coefficients, else refusal 1
+-- the coefficients of a kind, from the sine and the cosine of w0 and Peak's a
+unfoldable pub coefficientsOf : BiquadKind → Float → Float → Float → Coefficients
+coefficientsOf kind sine cosine a = normalised (cookbook kind cosine (alphaOf sine (quality kind)) a)
+
+-- are the settings within their limits? else 1
+unfoldable pub designVerdict : BiquadKind → ℕ → Float → Float → Float → Verdict
+designVerdict kind rate sine cosine a = ask (designAllowed kind rate sine cosine a) InvalidFormat Accepted
+
 unfoldable pub designAnswer : BiquadKind → ℕ → Float → Float → Float → DesignAnswer
-designAnswer kind rate sine cosine a =
-    cond (designAllowed kind rate sine cosine a) (Designed (normalised (cookbook kind cosine (sine /₆₄ (two *₆₄ quality kind)) a))) (Refused InvalidFormat)
+designAnswer kind rate sine cosine a = cond (designAllowed kind rate sine cosine a) (Designed (coefficientsOf kind sine cosine a)) (Refused InvalidFormat)
+
+abbrev pub allZero : Coefficients
+allZero = record { b0 = plusZero; b1 = plusZero; b2 = plusZero; a1 = plusZero; a2 = plusZero }
+
+-- the number and the coefficients that each answer tells: 0 and the coefficients, or the refusal's number and five times 0
+abbrev pub designTold : DesignAnswer → DesignTold
+designTold (Designed k) = record { number = 0; coefficients = k }
+designTold (Refused e) = record { number = refusal e .number; coefficients = allZero }
+
+-- the same by the questions
+abbrev pub designValued : Verdict → Coefficients → DesignTold
+designValued v k = record { number = numberOf v; coefficients = ifAccepted v k allZero }
+
+-- the flat filter is 1, 0, 0, 0, 0
+abbrev pub identity : Coefficients
+identity = record { b0 = ofInt binary32 (pos 1); b1 = plusZero; b2 = plusZero; a1 = plusZero; a2 = plusZero }
 
 -- the section with this numerator and the denominator that the kinds share
 abbrev pub withNumerator : Float → Float → Float → Float → Float → Section

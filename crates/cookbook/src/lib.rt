@@ -1,8 +1,9 @@
 // A biquad's coefficients, by the Audio EQ Cookbook (biquad.rs).
 ghost use mathlib.Core.Path.{_≡_};
-ghost use mathlib.Core.Bool.{_&&_};
+ghost use mathlib.Core.Bool.{_&&_, cond};
 ghost use lib.Ieee.{lt, le};
-ghost use Rattle.cookbook.specs.Cookbook.{frequency, quality, gainAllowed, designAllowed, cookbook, withNumerator, normalised, designAnswer};
+ghost use Rattle.pcm.specs.declared.Error.the-variants.{InvalidFormat};
+ghost use Rattle.cookbook.specs.Cookbook.{identity, alphaOf, settingsAllowed, factorAllowed, withNumerator, normalised, coefficientsOf, designVerdict, designAnswer, designTold, designValued};
 use pcm::Error;
 
 // The response to design.
@@ -37,6 +38,35 @@ pub enum DesignAnswer {
     Refused(Error),
 }
 
+// 0 and the coefficients, or a refusal's number and five times 0.
+pub struct DesignTold {
+    pub number: u16,
+    pub coefficients: Coefficients,
+}
+
+impl DesignAnswer {
+    pub fn told(self) -> DesignTold
+        ensures { λ t. ⌜ t ≡ designTold self ⌝ }
+    {
+        match self {
+            DesignAnswer::Designed(coefficients) => DesignTold {
+                number: 0,
+                coefficients,
+            },
+            DesignAnswer::Refused(e) => DesignTold {
+                number: e.number(),
+                coefficients: Coefficients {
+                    b0: 0.0,
+                    b1: 0.0,
+                    b2: 0.0,
+                    a1: 0.0,
+                    a2: 0.0,
+                },
+            },
+        }
+    }
+}
+
 impl Coefficients {
     // The flat filter.
     pub const IDENTITY: Coefficients = Coefficients {
@@ -47,111 +77,93 @@ impl Coefficients {
         a2: 0.0,
     };
 
+    pub fn flat() -> Coefficients
+        ensures { λ k. ⌜ k ≡ identity ⌝ }
+    {
+        Coefficients::IDENTITY
+    }
+
     // The coefficients of a kind at a rate. The caller has worked out the sine and the cosine of w0 = 2π * f0 / rate and, for Peak,
     // a = 10^(gain_db / 40).
     pub fn design(kind: BiquadKind, rate: u32, sine: f64, cosine: f64, a: f64) -> DesignAnswer
         ensures { λ d. ⌜ d ≡ designAnswer kind rate sine cosine a ⌝ }
+        ensures told { λ d. ⌜ designTold d ≡ designValued (designVerdict kind rate sine cosine a) (coefficientsOf kind sine cosine a) ⌝ }
     {
-        if kind.designable(rate, sine, cosine, a) {
-            let q = std::num::f32_to_f64_with_nan(kind.q());
-            return DesignAnswer::Designed(kind.section(cosine, sine / (2.0 * q), a).normalise());
+        match kind {
+            BiquadKind::LowPass { f0, q } => {
+                let alpha = alpha(sine, q);
+                let half = (1.0 - cosine) / 2.0;
+                let section = Section::with_numerator(half, 1.0 - cosine, half, cosine, alpha);
+                designed(allowed(f0, q, rate, sine, cosine), section)
+            }
+            BiquadKind::HighPass { f0, q } => {
+                let alpha = alpha(sine, q);
+                let half = (1.0 + cosine) / 2.0;
+                let section = Section::with_numerator(half, -(1.0 + cosine), half, cosine, alpha);
+                designed(allowed(f0, q, rate, sine, cosine), section)
+            }
+            BiquadKind::Peak { f0, q, gain_db: _ } => {
+                let alpha = alpha(sine, q);
+                let boost = alpha * a;
+                let section = Section::with_numerator(
+                    1.0 + boost,
+                    -2.0 * cosine,
+                    1.0 - boost,
+                    cosine,
+                    alpha / a,
+                );
+                designed(peak_allowed(f0, q, rate, sine, cosine, a), section)
+            }
+            BiquadKind::Notch { f0, q } => {
+                let alpha = alpha(sine, q);
+                let section = Section::with_numerator(1.0, -2.0 * cosine, 1.0, cosine, alpha);
+                designed(allowed(f0, q, rate, sine, cosine), section)
+            }
         }
-        DesignAnswer::Refused(Error::InvalidFormat)
     }
 }
 
-impl BiquadKind {
-    fn f0(self) -> f32
-        ensures { λ r. ⌜ r ≡ frequency self ⌝ }
-    {
-        match self {
-            BiquadKind::LowPass { f0, q: _ } => f0,
-            BiquadKind::HighPass { f0, q: _ } => f0,
-            BiquadKind::Peak {
-                f0,
-                q: _,
-                gain_db: _,
-            } => f0,
-            BiquadKind::Notch { f0, q: _ } => f0,
-        }
+// Where the settings are allowed, the section's coefficients.
+fn designed(allowed: bool, section: Section) -> DesignAnswer
+    ensures { λ d. ⌜ d ≡ cond allowed (DesignAnswer.Designed (normalised section)) (DesignAnswer.Refused InvalidFormat) ⌝ }
+{
+    if allowed {
+        return DesignAnswer::Designed(section.normalise());
     }
+    DesignAnswer::Refused(Error::InvalidFormat)
+}
 
-    fn q(self) -> f32
-        ensures { λ r. ⌜ r ≡ quality self ⌝ }
-    {
-        match self {
-            BiquadKind::LowPass { f0: _, q } => q,
-            BiquadKind::HighPass { f0: _, q } => q,
-            BiquadKind::Peak {
-                f0: _,
-                q,
-                gain_db: _,
-            } => q,
-            BiquadKind::Notch { f0: _, q } => q,
-        }
-    }
-
-    // Peak's a must be finite and above 0; the other kinds have none.
-    fn gain_allowed(self, a: f64) -> bool
-        ensures { λ r. ⌜ r ≡ gainAllowed self a ⌝ }
-    {
-        match self {
-            BiquadKind::LowPass { f0: _, q: _ } => true,
-            BiquadKind::HighPass { f0: _, q: _ } => true,
-            BiquadKind::Peak {
-                f0: _,
-                q: _,
-                gain_db: _,
-            } => between(a, 0.0, 1.0 / 0.0),
-            BiquadKind::Notch { f0: _, q: _ } => true,
-        }
-    }
-
-    // Whether the settings make a filter; a NaN fails each test.
-    fn designable(self, rate: u32, sine: f64, cosine: f64, a: f64) -> bool
-        ensures { λ r. ⌜ r ≡ designAllowed self rate sine cosine a ⌝ }
-    {
-        if pcm::rate_allowed(rate) {
-            let f0 = std::num::f32_to_f64_with_nan(self.f0());
-            if between(f0, 0.0, (rate as f64) / 2.0) {
-                if self.q() > 0.0 {
-                    if within(cosine, -1.0, 1.0) {
-                        if within(sine, 0.0, 1.0) {
-                            return self.gain_allowed(a);
-                        }
-                    }
+// Whether the settings that every kind has make a filter; a NaN fails each test.
+fn allowed(f0: f32, q: f32, rate: u32, sine: f64, cosine: f64) -> bool
+    ensures { λ r. ⌜ r ≡ settingsAllowed f0 q rate sine cosine ⌝ }
+{
+    if pcm::rate_allowed(rate) {
+        if between(std::num::f32_to_f64_with_nan(f0), 0.0, (rate as f64) / 2.0) {
+            if q > 0.0 {
+                if within(cosine, -1.0, 1.0) {
+                    return within(sine, 0.0, 1.0);
                 }
             }
         }
-        false
     }
+    false
+}
 
-    // The cookbook's formulas; alpha is sine / (2 * q).
-    fn section(self, cosine: f64, alpha: f64, a: f64) -> Section
-        ensures { λ s. ⌜ s ≡ cookbook self cosine alpha a ⌝ }
-    {
-        match self {
-            BiquadKind::LowPass { f0: _, q: _ } => {
-                let half = (1.0 - cosine) / 2.0;
-                Section::with_numerator(half, 1.0 - cosine, half, cosine, alpha)
-            }
-            BiquadKind::HighPass { f0: _, q: _ } => {
-                let half = (1.0 + cosine) / 2.0;
-                Section::with_numerator(half, -(1.0 + cosine), half, cosine, alpha)
-            }
-            BiquadKind::Peak {
-                f0: _,
-                q: _,
-                gain_db: _,
-            } => {
-                let boost = alpha * a;
-                Section::with_numerator(1.0 + boost, -2.0 * cosine, 1.0 - boost, cosine, alpha / a)
-            }
-            BiquadKind::Notch { f0: _, q: _ } => {
-                Section::with_numerator(1.0, -2.0 * cosine, 1.0, cosine, alpha)
-            }
-        }
+// Peak's a must also be finite and above 0.
+fn peak_allowed(f0: f32, q: f32, rate: u32, sine: f64, cosine: f64, a: f64) -> bool
+    ensures { λ r. ⌜ r ≡ (settingsAllowed f0 q rate sine cosine && factorAllowed a) ⌝ }
+{
+    if allowed(f0, q, rate, sine, cosine) {
+        return between(a, 0.0, 1.0 / 0.0);
     }
+    false
+}
+
+// sine / (2 * q)
+fn alpha(sine: f64, q: f32) -> f64
+    ensures { λ r. ⌜ r ≡ alphaOf sine q ⌝ }
+{
+    sine / (2.0 * std::num::f32_to_f64_with_nan(q))
 }
 
 // low < x < high

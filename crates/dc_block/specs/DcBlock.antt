@@ -7,7 +7,7 @@ use Rattle.pcm.specs.declared.Error.the-variants.{InvalidFormat}
 use Rattle.pcm.specs.declared.Verdict.{Verdict}
 use Rattle.pcm.specs.declared.Verdict.the-variants.{Accepted}
 use Rattle.pcm.specs.Formats.{rateAllowed}
-use Rattle.pcm.specs.Refusals.{refusal, ask}
+use Rattle.pcm.specs.Refusals.{refusal, ask, numberOf, ifAccepted}
 use Rattle.floats.specs.Operations.{plusZero, _+₃₂_, _-₃₂_, _*₃₂_, _/₃₂_}
 use Rattle.filters.specs.Filters.{Taps}
 use Rattle.dc_block.specs.declared.DcBlock.{DcBlock}
@@ -42,6 +42,10 @@ poleAnswer corner rate = cond (rateAllowed rate) (Pole (poleOf corner rate)) (Re
 abbrev pub poleTold : PoleAnswer → PoleTold
 poleTold (Pole r) = record { number = 0; pole = r }
 poleTold (Refused e) = record { number = refusal e .number; pole = plusZero }
+
+-- the same by the question
+abbrev pub poleValued : Verdict → Float → PoleTold
+poleValued v r = record { number = numberOf v; pole = ifAccepted v r plusZero }
 
 -- a filter of this corner before a rate is known
 abbrev pub untuned : ℕ → DcBlock

@@ -5,10 +5,8 @@ ghost use lib.IntN.{pos};
 ghost use lib.Ieee.{binary32, ofBits, ofInt};
 ghost use Rattle.floats.specs.Floats.{patternOf};
 ghost use Rattle.pcm.specs.Formats.{rateAllowed};
-ghost use Rattle.pcm.specs.Refusals.{numberOf, ifAccepted};
-ghost use Rattle.floats.specs.Operations.{plusZero};
 ghost use Rattle.filters.specs.Filters.{FilterBlock, FilteredBlock};
-ghost use Rattle.dc_block.specs.DcBlock.{blocked, dcTick, poleOf, poleVerdict, poleAnswer, poleTold, untuned};
+ghost use Rattle.dc_block.specs.DcBlock.{blocked, dcTick, poleOf, poleVerdict, poleAnswer, poleTold, poleValued, untuned};
 use filters::FilterMemory;
 use pcm::Error;
 
@@ -70,7 +68,7 @@ impl DcBlock {
     // The pole for a rate, refused where the rate is not within its limit.
     pub fn pole(corner: f32, rate: u32) -> PoleAnswer
         ensures { λ a. ⌜ a ≡ poleAnswer corner rate ⌝ }
-        ensures told { λ a. ⌜ poleTold a ≡ record { number = numberOf (poleVerdict rate); pole = ifAccepted (poleVerdict rate) (poleOf corner rate) plusZero } ⌝ }
+        ensures told { λ a. ⌜ poleTold a ≡ poleValued (poleVerdict rate) (poleOf corner rate) ⌝ }
     {
         if pcm::rate_allowed(rate) {
             return PoleAnswer::Pole(radius(corner, rate));

@@ -1,5 +1,5 @@
 -- A filter on frames, each channel by its own memory (document 01, 'The whole stream'). A filter is its `tick`: one channel's taps
--- after a sample. Assumes nothing.
+-- after a sample. Definitions only.
 use mathlib.Core.Path.{_≡_}
 use mathlib.Core.List.{List, [], _∷_, map}
 use Prim.Native.Nat.{ℕ, _*_, _%_, _≤_, _<_}

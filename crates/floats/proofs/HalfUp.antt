@@ -5,7 +5,7 @@ use Prim.Native.Nat.{ℕ, zero, suc, _+_, _-_, _*_, _/_, _%_, _^_, _≤_, _<_, m
 use native.Mathlib.Nat.{le-trans, lt-of-lt-of-le, eq-or-lt-of-le, le-of-suc-le-suc, le-add-right, add-mul, mul-assoc, mul-comm, mul-left-comm, mul-le-mul, mod-lt, div-add-mod', div-eq-of-lt, div-eq-of-lt-le, add-div-right, div-div-eq-div-mul, add-comm}
 use native.Mathlib.Omega.{arith}
 use mathlib.Core.Bool.{Bool, true, false, not, cond}
-use borrow.Author.Tests.{leb-true, leb-false, ne-eqb, eq-eqb}
+use borrow.Author.Tests.{leb-true, leb-false}
 use lib.Dec.{T, leb, lit≤}
 use lib.IntN.{pos, negℤ}
 use lib.Pow.{pow-add, pow-pos, pow-mono, shl-lt}
@@ -15,6 +15,7 @@ use lib.Ieee.Fits.{down-pos}
 use lib.Ieee.Exact.{HasValue, odd-sign}
 use lib.Ieee.Nearest.{div-same}
 use Rattle.pcm.specs.laws.Tests.{lt-or-ge}
+use Rattle.floats.proofs.Fields.{fields-zero, fields-mid, fields-top, ofBits-is, digits-in, field-in, top-digits}
 use Rattle.floats.proofs.Nan.{pattern-in}
 use Rattle.floats.specs.Rounding.{halfUp, magnitude, roundSat}
 use Rattle.floats.proofs.Rounding.{halfUp-ge}
@@ -73,18 +74,6 @@ value (fin t m e) s a c C h = halfUp-same (m * up e) (down e) a c (down-pos e) C
 mag-odd : (s : Bool) (q k : ℕ) → magnitude (odd 24 s q k 149) ≡ halfUp (q * 2 ^ k) (2 ^ 149)
 mag-odd s q k = value (odd 24 s q k 149) s (q * 2 ^ k) (2 ^ 149) (pow-pos 149) (odd-sign 24 s q k 149)
 
-fields-zero : (s : Bool) (t : ℕ) → ofFields binary32 s 0 t ≡ odd 24 s t 0 149
-unfolding ofFields
-fields-zero s t = refl
-
-pub fields-mid : (s : Bool) (x t : ℕ) → suc x < 255 → ofFields binary32 s (suc x) t ≡ odd 24 s (8388608 + t) x 149
-unfolding ofFields
-fields-mid s x t h = rw (ne-eqb (suc x) 255 (omega arith)) refl
-
-fields-top : (s : Bool) (x t : ℕ) → suc x ≡ 255 → t ≡ 0 → ofFields binary32 s (suc x) t ≡ inf s
-unfolding ofFields
-fields-top s x t h z = rw (eq-eqb (suc x) 255 h, eq-eqb t 0 z) refl
-
 -- what the code computes of an exponent's field and the digits
 abbrev pub coded : ℕ → ℕ → ℕ
 coded x t = halfUp ((t + 8388608) * 4) (2 ^ min 63 (152 - min x 152))
@@ -137,13 +126,13 @@ by-fields : (s : Bool) (x t : ℕ) → t < 8388608 → x ≤ 255 → (x ≡ 255 
 unfolding magnitude
 by-fields s zero t h k z =
     ap (λ (y : ℕ). min y 33554432)
-    (ap magnitude (fields-zero s t) ∙ mag-odd s t 0 ∙ halfUp-zero (t * 2 ^ 0) (2 ^ 149) (doubled (t * 2 ^ 0) 8388608 (2 ^ 149) (omega arith) (lit≤ tt)) ∙ sym (coded-low 0 t h (omega arith)))
+    (ap magnitude (fields-zero binary32 s t) ∙ mag-odd s t 0 ∙ halfUp-zero (t * 2 ^ 0) (2 ^ 149) (doubled (t * 2 ^ 0) 8388608 (2 ^ 149) (omega arith) (lit≤ tt)) ∙ sym (coded-low 0 t h (omega arith)))
 by-fields s (suc x) t h k z = go (eq-or-lt-of-le k)
   where
     go : (suc x ≡ 255) ⊎ (suc x < 255) → min (magnitude (ofFields binary32 s (suc x) t)) 33554432 ≡ min (coded (suc x) t) 33554432
-    go (inl e) = ap (λ (v : Float). min (magnitude v) 33554432) (fields-top s x t e (z e)) ∙ capped (2 ^ 64) (coded (suc x) t) 33554432 (lit≤ tt) (coded-high (suc x) t (omega arith))
+    go (inl e) = ap (λ (v : Float). min (magnitude v) 33554432) (fields-top binary32 s x t e (z e)) ∙ capped (2 ^ 64) (coded (suc x) t) 33554432 (lit≤ tt) (coded-high (suc x) t (omega arith))
     go (inr l) =
-        ap (λ (v : Float). min (magnitude v) 33554432) (fields-mid s x t l)
+        ap (λ (v : Float). min (magnitude v) 33554432) (fields-mid binary32 s x t l)
         ∙ ap (λ (y : ℕ). min y 33554432) (mag-odd s (8388608 + t) x)
         ∙ elim (lt-or-ge x 124) [
           | inl a ↦ ap (λ (y : ℕ). min y 33554432) (low x t h a ∙ sym (coded-low (suc x) t h (omega arith)))
@@ -153,25 +142,12 @@ by-fields s (suc x) t h k z = go (eq-or-lt-of-le k)
           ]
         ]
 
-ofBits-is : (b : ℕ) → ofBits binary32 b ≡ ofFields binary32 (leb 2147483648 b) (b % 2147483648 / 8388608) (b % 8388608)
-unfolding ofBits
-ofBits-is b = refl
-
-digits-in : (b : ℕ) → b % 8388608 < 8388608
-digits-in b = omega arith
-
-field-in : (b : ℕ) → b % 2147483648 / 8388608 ≤ 255
-field-in b = omega arith
-
-top-digits : (b : ℕ) → b % 2147483648 ≤ 0x7f80_0000 → b % 2147483648 / 8388608 ≡ 255 → b % 8388608 ≡ 0
-top-digits b h e = omega arith
-
 -- the code's number is the magnitude, up to 2 ^ 25
 pub answer : (b j : ℕ) → b % 2147483648 ≤ 0x7f80_0000 → j ≡ min 63 (152 - min (b % 2147483648 / 8388608) 152)
     → min (((b % 8388608 + 8388608) * 8 / 2 ^ j + 1) / 2) 33554432 ≡ min (magnitude (ofBits binary32 b)) 33554432
 answer b j h k =
-    sym (ap (λ (v : Float). min (magnitude v) 33554432) (ofBits-is b)
-    ∙ by-fields (leb 2147483648 b) (b % 2147483648 / 8388608) (b % 8388608) (digits-in b) (field-in b) (top-digits b h)
+    sym (ap (λ (v : Float). min (magnitude v) 33554432) (ofBits-is binary32 b)
+    ∙ by-fields (leb 2147483648 b) (b % 2147483648 / 8388608) (b % 8388608) (digits-in binary32 b) (field-in binary32 b) (top-digits binary32 b h)
     ∙ ap (λ (y : ℕ). min y 33554432) (ap (λ (y : ℕ). halfUp ((b % 8388608 + 8388608) * 4) (2 ^ y)) (sym k) ∙ sym (shifted (b % 8388608 + 8388608) j)))
 
 -- ---- the sign, and the limits
@@ -186,10 +162,10 @@ odd-signed s zero k = refl
 odd-signed s (suc q) k = refl
 
 fields-signed : (s : Bool) (x t : ℕ) → x ≤ 255 → (x ≡ 255 → t ≡ 0) → Signed (ofFields binary32 s x t) s
-fields-signed s zero t k z = subst (λ (v : Float). Signed v s) (sym (fields-zero s t)) (odd-signed s t 0)
+fields-signed s zero t k z = subst (λ (v : Float). Signed v s) (sym (fields-zero binary32 s t)) (odd-signed s t 0)
 fields-signed s (suc x) t k z = elim (eq-or-lt-of-le k) [
-  | inl e ↦ subst (λ (v : Float). Signed v s) (sym (fields-top s x t e (z e))) refl
-  | inr l ↦ subst (λ (v : Float). Signed v s) (sym (fields-mid s x t l)) (odd-signed s (8388608 + t) x)
+  | inl e ↦ subst (λ (v : Float). Signed v s) (sym (fields-top binary32 s x t e (z e))) refl
+  | inr l ↦ subst (λ (v : Float). Signed v s) (sym (fields-mid binary32 s x t l)) (odd-signed s (8388608 + t) x)
 ]
 
 inner : (a l : ℕ) → l ≤ 33554432 → min (min a 33554432) l ≡ min a l
@@ -212,7 +188,7 @@ module _ (lo hi : ℕ) (lo-in : lo ≤ 33554432) (hi-in : hi ≤ 33554432) where
         let b = toBits binary32 x in
         let e : ofBits binary32 b ≡ x = ofBits-toBits binary32 x f in
         let signed : Signed (ofBits binary32 b) (leb 2147483648 b) =
-        subst (λ (v : Float). Signed v (leb 2147483648 b)) (sym (ofBits-is b)) (fields-signed (leb 2147483648 b) (b % 2147483648 / 8388608) (b % 8388608) (field-in b) (top-digits b (pattern-in binary32 x f n))) in
+        subst (λ (v : Float). Signed v (leb 2147483648 b)) (sym (ofBits-is binary32 b)) (fields-signed (leb 2147483648 b) (b % 2147483648 / 8388608) (b % 8388608) (field-in binary32 b) (top-digits binary32 b (pattern-in binary32 x f n))) in
         ap (roundSat lo hi) (sym e)
         ∙ sat (ofBits binary32 b) (leb 2147483648 b) signed
         ∙ ap (λ (v : ℕ). cond (leb 2147483648 b) (negℤ (pos (min v lo))) (pos (min v hi))) (sym k)

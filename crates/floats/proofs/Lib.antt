@@ -1,3 +1,4 @@
+mod Fields
 mod HalfUp
 mod Nan
 mod Short

@@ -1,4 +1,4 @@
--- Laws of Rounding.
+-- Holding a float within the sample range before it is rounded changes nothing. Assumes nothing.
 use mathlib.Core.Path.{_≡_, refl, sym, ap}
 use Prim.Native.Nat.{ℕ, _*_, _/_, _≤_, _<_, min}
 use native.Mathlib.Nat.{le-trans, le-of-lt, le-add-right, le-div-iff-mul-le}
@@ -7,11 +7,10 @@ use mathlib.Core.Bool.{Bool, true, false, cond}
 use borrow.Author.Tests.{ltb-true}
 use lib.Dec.{ltb}
 use lib.IntN.{pos, negℤ}
-use lib.Ieee.{Float, nan, inf, fin, up, down, lt}
+use lib.Ieee.{Float, nan, inf, fin, up, down, lt, ofInt, round}
 use lib.Ieee.Fits.{down-pos}
-use Rattle.floats.specs.Rounding.{halfUp, roundSat, atMost, heldFloat}
+use Rattle.floats.specs.Rounding.{halfUp, roundSat, rounded16, atMost, heldFloat}
 
--- ---- holding a float within the sample range first changes nothing
 pub halfUp-ge : (k n d : ℕ) → 0 < d → k * d ≤ n → k ≤ halfUp n d
 unfolding halfUp
 halfUp-ge k n d D h = le-trans (le-div-iff-mul-le D .1 h) (le-add-right (n / d) _)
@@ -20,8 +19,8 @@ halfUp-ge k n d D h = le-trans (le-div-iff-mul-le D .1 h) (le-add-right (n / d) 
 past-limit : (k n d : ℕ) → 0 < d → k * d < n → min (halfUp n d) k ≡ k
 past-limit k n d D h = omega (arith, halfUp-ge k n d D (le-of-lt h))
 
-pub round-held : (x : Float) → roundSat 32768 32767 (heldFloat x) ≡ roundSat 32768 32767 x
-unfolding roundSat heldFloat halfUp lt
+pub round-held : (x : Float) → rounded16 (heldFloat x) ≡ rounded16 x
+unfolding roundSat heldFloat halfUp lt ofInt round
 round-held nan = refl
 round-held (inf true) = refl
 round-held (inf false) = refl

@@ -5,7 +5,7 @@ use Prim.Native.Nat.{ℕ, zero, suc, _+_, _-_, _*_, _/_, _%_, _^_, _≤_, _<_, m
 use native.Mathlib.Nat.{le-trans, le-of-eq, le-antisymm, lt-of-lt-of-le, lt-of-le-of-lt, lt-of-not-le, lt-irrefl, lt-suc-self, not-le-of-lt, eq-or-lt-of-le, le-of-suc-le-suc, le-add-right, zero-add, mul-one, mul-assoc, mul-comm, mul-right-comm, mul-pos, mul-le-mul, mul-le-mul-right, mul-lt-mul-of-pos-right, mul-div-cancel, mul-div-mul-right, div-one, le-div-iff-mul-le, div-lt-iff-lt-mul, add-comm, add-assoc}
 use native.Mathlib.Omega.{arith}
 use mathlib.Core.Bool.{Bool, true, false, not, cond}
-use borrow.Author.Tests.{le-ltb, lt-leb, le-leb, ne-eqb, eq-eqb}
+use borrow.Author.Tests.{le-ltb, lt-leb, le-leb}
 use lib.Dec.{T, leb, ltb, lit≤, lit<}
 use lib.Pow.{pow-add, pow-pos, pow-mono, pow-lt, shl-lt}
 use lib.Ieee.{Float, nan, inf, fin, binary32, binary64, up, down, size, odd, units, round, ofFields, ofBits, toBits, fits, isNan, nanBits}
@@ -17,6 +17,7 @@ use lib.Ieee.Nearest.{closest, closest-same}
 use lib.Ieee.Scale.{round-same}
 use Rattle.floats.specs.Floats.{narrowed}
 use Rattle.pcm.specs.laws.Tests.{lt-or-ge}
+use Rattle.floats.proofs.Fields.{fields-zero, fields-mid, fields-top, ofBits-is, digits-in, field-in, top-digits}
 use Rattle.floats.proofs.Nan.{pattern-in}
 use Rattle.floats.proofs.Ties.{closest-zero, closest-le, closest-ge}
 
@@ -232,18 +233,6 @@ by-value (fin t m e) s a c C h = ap (λ (u : Bool). round binary32 u (m * up e) 
 narrowed-odd : (s : Bool) (q x : ℕ) → narrowed (odd 53 s q x 1074) ≡ round binary32 s (q * 2 ^ x) (2 ^ 1074)
 narrowed-odd s q x = by-value (odd 53 s q x 1074) s (q * 2 ^ x) (2 ^ 1074) (pow-pos 1074) (odd-sign 53 s q x 1074)
 
-fields-zero : (s : Bool) (t : ℕ) → ofFields binary64 s 0 t ≡ odd 53 s t 0 1074
-unfolding ofFields
-fields-zero s t = refl
-
-fields-mid : (s : Bool) (x t : ℕ) → suc x < 2047 → ofFields binary64 s (suc x) t ≡ odd 53 s (4503599627370496 + t) x 1074
-unfolding ofFields
-fields-mid s x t h = rw (ne-eqb (suc x) 2047 (omega arith)) refl
-
-fields-top : (s : Bool) (x t : ℕ) → suc x ≡ 2047 → t ≡ 0 → ofFields binary64 s (suc x) t ≡ inf s
-unfolding ofFields
-fields-top s x t h z = rw (eq-eqb (suc x) 2047 h, eq-eqb t 0 z) refl
-
 module _ (s : Bool) (t : ℕ) (h : t < 4503599627370496) where
   in-range : 4503599627370496 + t < 2 ^ 53
   in-range = omega arith
@@ -252,11 +241,11 @@ module _ (s : Bool) (t : ℕ) (h : t < 4503599627370496) where
   lead = le-add-right 4503599627370496 t
 
   rounded : (x : ℕ) → suc x < 2047 → narrowed (ofFields binary64 s (suc x) t) ≡ round binary32 s ((4503599627370496 + t) * 2 ^ x) (2 ^ 1074)
-  rounded x l = ap narrowed (fields-mid s x t l) ∙ narrowed-odd s (4503599627370496 + t) x
+  rounded x l = ap narrowed (fields-mid binary64 s x t l) ∙ narrowed-odd s (4503599627370496 + t) x
 
   pub at-low : (e : ℕ) → e < 897 → toBits binary32 (narrowed (ofFields binary64 s e t)) ≡ sign s + closest (t + 4503599627370496) (2 ^ max 29 (min 63 (926 - e)))
   at-low zero l =
-      ap (toBits binary32) (ap narrowed (fields-zero s t) ∙ narrowed-odd s t 0)
+      ap (toBits binary32) (ap narrowed (fields-zero binary64 s t) ∙ narrowed-odd s t 0)
       ∙ low-bits s t (omega arith) 0 (omega arith)
       ∙ ap (λ (y : ℕ). sign s + y) (closest-zero t (2 ^ 63) (omega arith) ∙ sym (closest-zero (t + 4503599627370496) (2 ^ 63) (omega arith)))
   at-low (suc x) l =
@@ -283,7 +272,7 @@ module _ (s : Bool) (t : ℕ) (h : t < 4503599627370496) where
   unfolding narrowed toBits
   at-high zero g l z = absurd (omega arith)
   at-high (suc x) g l z = elim (eq-or-lt-of-le l) [
-    | inl e ↦ ap (λ (v : Float). toBits binary32 (narrowed v)) (fields-top s x t e (z e))
+    | inl e ↦ ap (λ (v : Float). toBits binary32 (narrowed v)) (fields-top binary64 s x t e (z e))
     | inr b ↦ ap (toBits binary32) (rounded x b) ∙ over-bits s (4503599627370496 + t) in-range (suc x - 897) lead x (omega arith) (omega arith)
   ]
 
@@ -319,24 +308,11 @@ pub record Writes (v : Float) (p : ℕ) : Type 0 where
   pub number : T (not (nanBits binary32 p))
   pub reads : ofBits binary32 p ≡ v
 
-ofBits-is : (b : ℕ) → ofBits binary64 b ≡ ofFields binary64 (leb 9223372036854775808 b) (b % 9223372036854775808 / 4503599627370496) (b % 4503599627370496)
-unfolding ofBits
-ofBits-is b = refl
-
 sign-is : (b : ℕ) → b < 2 ^ 64 → sign (leb 9223372036854775808 b) ≡ b / 9223372036854775808 * 2147483648
 sign-is b h = elim (lt-or-ge b 9223372036854775808) [
   | inl l ↦ ap sign (lt-leb 9223372036854775808 b l) ∙ (omega arith)
   | inr g ↦ ap sign (le-leb 9223372036854775808 b g) ∙ (omega arith)
 ]
-
-digits-in : (b : ℕ) → b % 4503599627370496 < 4503599627370496
-digits-in b = omega arith
-
-field-in : (b : ℕ) → b % 9223372036854775808 / 4503599627370496 ≤ 2047
-field-in b = omega arith
-
-top-digits : (b : ℕ) → b % 9223372036854775808 ≤ 9218868437227405312 → b % 9223372036854775808 / 4503599627370496 ≡ 2047 → b % 4503599627370496 ≡ 0
-top-digits b h e = omega arith
 
 module _ (x : Float) (f : T (fits binary64 x)) (n : T (not (isNan x))) where
   pub word-in : toBits binary64 x < 2 ^ 64
@@ -357,24 +333,24 @@ module _ (x : Float) (f : T (fits binary64 x)) (n : T (not (isNan x))) where
       → Writes (narrowed x) (toBits binary64 x / 9223372036854775808 * 2147483648 + r)
   by-fields r h =
       writes _
-      (ap (λ (v : Float). toBits binary32 (narrowed v)) (sym (ofBits-toBits binary64 x f) ∙ ofBits-is (toBits binary64 x))
+      (ap (λ (v : Float). toBits binary32 (narrowed v)) (sym (ofBits-toBits binary64 x f) ∙ ofBits-is binary64 (toBits binary64 x))
       ∙ h
       ∙ ap (λ (y : ℕ). y + r) (sign-is (toBits binary64 x) word-in))
 
   pub high : 1150 < toBits binary64 x % 9223372036854775808 / 4503599627370496 → Writes (narrowed x) (toBits binary64 x / 9223372036854775808 * 2147483648 + 2139095040)
-  high g = by-fields 2139095040 (at-high _ _ (digits-in (toBits binary64 x)) _ g (field-in (toBits binary64 x)) (top-digits (toBits binary64 x) (pattern-in binary64 x f n)))
+  high g = by-fields 2139095040 (at-high _ _ (digits-in binary64 (toBits binary64 x)) _ g (field-in binary64 (toBits binary64 x)) (top-digits binary64 (toBits binary64 x) (pattern-in binary64 x f n)))
 
   module _ (k q : ℕ) (k-is : k ≡ max 29 (min 63 (926 - toBits binary64 x % 9223372036854775808 / 4503599627370496))) (q-is : q ≡ closest (toBits binary64 x % 4503599627370496 + 4503599627370496) (2 ^ k)) where
     kept : closest (toBits binary64 x % 4503599627370496 + 4503599627370496) (2 ^ max 29 (min 63 (926 - toBits binary64 x % 9223372036854775808 / 4503599627370496))) ≡ q
     kept = ap (λ (y : ℕ). closest (toBits binary64 x % 4503599627370496 + 4503599627370496) (2 ^ y)) (sym k-is) ∙ sym q-is
 
     pub lower : toBits binary64 x % 9223372036854775808 / 4503599627370496 < 897 → Writes (narrowed x) (toBits binary64 x / 9223372036854775808 * 2147483648 + q)
-    lower l = by-fields q (at-low _ _ (digits-in (toBits binary64 x)) _ l ∙ ap (λ (y : ℕ). sign (leb 9223372036854775808 (toBits binary64 x)) + y) kept)
+    lower l = by-fields q (at-low _ _ (digits-in binary64 (toBits binary64 x)) _ l ∙ ap (λ (y : ℕ). sign (leb 9223372036854775808 (toBits binary64 x)) + y) kept)
 
     pub middle : 897 ≤ toBits binary64 x % 9223372036854775808 / 4503599627370496 → toBits binary64 x % 9223372036854775808 / 4503599627370496 ≤ 1150
         → Writes (narrowed x) (toBits binary64 x / 9223372036854775808 * 2147483648 + ((toBits binary64 x % 9223372036854775808 / 4503599627370496 - 897) * 8388608 + q))
     middle g l =
-        by-fields _ (at-mid _ _ (digits-in (toBits binary64 x)) _ g l
+        by-fields _ (at-mid _ _ (digits-in binary64 (toBits binary64 x)) _ g l
         ∙ ap (λ (y : ℕ). sign (leb 9223372036854775808 (toBits binary64 x)) + ((toBits binary64 x % 9223372036854775808 / 4503599627370496 - 897) * 8388608 + y)) kept)
 
 -- ---- the NaN

@@ -1,4 +1,4 @@
--- Floats and their bits. Definitions only.
+-- Patterns of floats, and narrowing to binary32 (document 01, biquad.rs). Definitions only.
 use Prim.Native.Nat.{ℕ, _*_}
 use lib.Ieee.{Float, nan, inf, fin, binary32, toBits, up, down, round}
 

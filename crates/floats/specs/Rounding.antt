@@ -1,9 +1,10 @@
--- Rounding to whole numbers, exact halves away from zero (document 01, lib.rs). Assumes nothing.
+-- Rounding to whole numbers, exact halves away from zero (document 01, lib.rs). Definitions only.
 use Prim.Native.Nat.{ℕ, _+_, _*_, _/_, _%_, _^_, min}
-use mathlib.Core.Bool.{true, false, cond}
+use mathlib.Core.Bool.{cond}
 use lib.Dec.{leb}
 use lib.IntN.{ℤ, pos, negℤ}
-use lib.Ieee.{Float, nan, inf, fin, up, down, lt}
+use lib.Ieee.{Float, nan, inf, fin, up, down, lt, binary32, ofInt}
+use Rattle.pcm.specs.Integers.{−}
 
 -- n / d to the nearest whole number, a half up: the whole part, and one more where what is left is a half or more
 unfoldable pub halfUp : ℕ → ℕ → ℕ
@@ -34,4 +35,4 @@ abbrev pub atMost : Float → Float → Float
 atMost high x = cond (lt high x) high x
 
 unfoldable pub heldFloat : Float → Float
-heldFloat x = atMost (fin false 32767 (pos 0)) (atLeast (fin true 1 (pos 15)) x)
+heldFloat x = atMost (ofInt binary32 (pos 32767)) (atLeast (ofInt binary32 (− 32768)) x)

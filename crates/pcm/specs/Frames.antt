@@ -1,4 +1,5 @@
--- Sound is a list of frames; a frame has one sample for each channel. Bytes become frames and frames bytes at the edge only. Assumes nothing.
+-- Sound is a list of frames; a frame has one sample for each channel. Bytes become frames and frames bytes at the edge only.
+-- Definitions only.
 use mathlib.Core.Path.{_≡_}
 use mathlib.Core.List.{List, [], _∷_, _++_}
 use Prim.Native.Nat.{ℕ, zero, suc, _*_, _/_}

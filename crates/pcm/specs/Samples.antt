@@ -1,20 +1,21 @@
--- A sample is 16-bit signed, low byte first (document 01, lib.rs). Assumes nothing.
+-- A sample is 16-bit signed, low byte first (document 01, lib.rs). Definitions only.
 use mathlib.Core.Bool.{cond}
 use mathlib.Core.List.{List, [], _∷_}
 use Prim.Native.Nat.{ℕ, _+_, _*_, _/_, _%_, _<_}
-use lib.IntN.{ℤ, pos, negsuc}
+use lib.IntN.{ℤ, pos}
 use lib.ListN.{getD, set}
 use lib.Signed.{ltZ}
 use mir.Syntax.{w16}
 use mir.Val.{SFits, toZ, ofZ}
+use Rattle.pcm.specs.Integers.{−}
 
 -- a number held within low and high
 unfoldable pub held : ℤ → ℤ → ℤ → ℤ
 held low high z = cond (ltZ z low) low (cond (ltZ high z) high z)
 
--- sat16 holds a number within -32,768 to 32,767
+-- sat16 holds a number within −32,768 to 32,767
 abbrev pub held16 : ℤ → ℤ
-held16 z = held (negsuc 32767) (pos 32767) z
+held16 z = held (− 32768) (pos 32767) z
 
 -- the sample that two bytes hold
 unfoldable pub sampleOf : ℕ → ℕ → ℤ

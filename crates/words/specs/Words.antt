@@ -1,4 +1,4 @@
--- Numbers in bytes, low byte first (document 01, 'The recipe'). Assumes nothing.
+-- Numbers in bytes, low byte first (document 01, 'The recipe'). Definitions only.
 use mathlib.Core.List.{List, [], _∷_, _++_}
 use Prim.Native.Nat.{ℕ, zero, suc, _+_, _*_, _/_, _%_, _^_, _<_}
 use lib.ListN.{take, drop}
@@ -28,6 +28,6 @@ abbrev pub wordsBytes : List ℕ → List ℕ
 wordsBytes [] = []
 wordsBytes (x ∷ xs) = wordBytes 4 x ++ wordsBytes xs
 
--- ---- laws of numbers of 32 bits
+-- numbers of 32 bits
 abbrev pub Words : List ℕ → Type 0
 Words xs = All (λ (x : ℕ). x < 2 ^ 32) xs

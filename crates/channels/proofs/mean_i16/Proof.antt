@@ -1,5 +1,4 @@
 -- `channels::mean_i16` meets its contract. Assumes nothing.
-use mathlib.Core.Path.{refl}
 use lib.IntN.{_+ℤ_}
 use mir.Syntax.{w16, w32}
 use mir.Val.{SFits}

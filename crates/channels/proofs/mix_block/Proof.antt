@@ -1,9 +1,8 @@
 -- `channels::mix_block` meets its contract. Assumes nothing.
-use mathlib.Core.Path.{_≡_, refl, sym, ap, ap₂, _∙_}
-use mathlib.Core.List.{_∷_}
-use Prim.Native.Nat.{_+_, _-_, _%_, _≤_}
+use mathlib.Core.Path.{_≡_, refl, sym, ap₂, _∙_}
+use Prim.Native.Nat.{_-_, _%_, _≤_}
 use native.Mathlib.Omega.{arith}
-use lib.ListN.{drop, getD}
+use lib.ListN.{drop}
 use mir.Syntax.{w16}
 use Rattle.pcm.specs.laws.Integers.{answered}
 use Rattle.pcm.specs.Samples.{sampleAt}

@@ -2,7 +2,7 @@
 use mathlib.Core.Path.{_≡_, refl, sym, ap, _∙_}
 use Prim.Native.Nat.{_+_, _*_, _-_, _%_, _≤_}
 use native.Mathlib.Omega.{arith}
-use lib.ListN.{length, drop}
+use lib.ListN.{drop}
 use mir.Syntax.{w16}
 use Rattle.pcm.specs.laws.Integers.{answered}
 use Rattle.pcm.specs.Samples.{sampleAt}

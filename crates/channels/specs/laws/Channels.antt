@@ -1,4 +1,4 @@
--- Laws of the definitions in Channels. Assumes nothing.
+-- One frame more, lengths, and samples of samples. Assumes nothing.
 use mathlib.Core.Path.{_≡_, refl, ap, _∙_}
 use mathlib.Core.List.{List, [], _∷_, map}
 use Prim.Native.Nat.{ℕ, suc, _*_, _/_, _%_, _≤_, _<_}
@@ -15,7 +15,7 @@ use Rattle.pcm.specs.Frames.{Frame, FrameOf, bytesOf}
 use Rattle.pcm.specs.laws.Frames.{frames-mono, frames-stereo, frames-nil}
 use Rattle.channels.specs.Channels.{doubled, stereoBytes, mean, mixdown, monoBytes}
 
--- ---- laws: one frame more
+-- ---- one frame more
 module _ (a b : ℕ) (rest : List ℕ) where
   pub stereo-next : stereoBytes (a ∷ b ∷ rest) ≡ lowOf (sampleOf a b) ∷ highOf (sampleOf a b) ∷ lowOf (sampleOf a b) ∷ highOf (sampleOf a b) ∷ stereoBytes rest
   unfolding stereoBytes bytesOf
@@ -33,7 +33,7 @@ pub mono-nil : monoBytes [] ≡ []
 unfolding monoBytes bytesOf
 mono-nil = ap (λ (fs : List Frame). bytesOf (map mixdown fs)) (frames-nil 2)
 
--- ---- laws: lengths
+-- ---- lengths
 pub length-stereo : (bytes : List ℕ) → length bytes % 2 ≡ 0 → length (stereoBytes bytes) ≡ length bytes * 2
 length-stereo [] e = ap length stereo-nil
 length-stereo (a ∷ []) e = absurd (let z : ⊥ = omega (arith, e) in z)
@@ -46,7 +46,7 @@ length-mono (a ∷ b ∷ []) e = absurd (let z : ⊥ = omega (arith, e) in z)
 length-mono (a ∷ b ∷ c ∷ []) e = absurd (let z : ⊥ = omega (arith, e) in z)
 length-mono (a ∷ b ∷ c ∷ d ∷ rest) e = ap length (mono-next a b rest c d) ∙ omega (arith, length-mono rest (omega (arith, e)))
 
--- ---- laws: samples of samples
+-- ---- samples of samples
 mean-mixed : (a b : ℕ) → SFits w16 (pos a) → SFits w16 (negsuc b) → SFits w16 (floorDiv (subℕ a (suc b)) 2)
 mean-mixed a b f g = go (decLt a (suc b))
   where

@@ -1,4 +1,4 @@
--- Laws of the definitions in Filters. Assumes nothing.
+-- A filter cut between two frames goes on from its memory, and the loop over a block. Assumes nothing.
 use mathlib.Core.Path.{_≡_, refl, sym, ap, _∙_, subst}
 use mathlib.Core.List.{List, [], _∷_, _++_}
 use Prim.Native.Nat.{ℕ, suc, _+_, _*_, _/_, _%_, _≤_, _<_}

@@ -5,7 +5,7 @@ use mathlib.Core.Bool.{Bool, true, false, cond, not}
 use Prim.Native.Nat.{ℕ, _≤_, min}
 use native.Mathlib.Omega.{arith}
 use lib.Dec.{T, leb}
-use lib.IntN.{ℤ, pos, negℤ}
+use lib.IntN.{pos, negℤ}
 use lib.Ieee.{binary32, fits, isNan, toBits}
 use mir.Syntax.{w32}
 use Rattle.pcm.specs.laws.Integers.{answered}

@@ -1,4 +1,4 @@
--- Laws of the definitions in Rounding. Assumes nothing.
+-- What is rounded to a sample is a sample. Assumes nothing.
 use Prim.Native.Nat.{ℕ, zero, suc, _*_, _≤_, min}
 use native.Mathlib.Omega.{arith}
 use mathlib.Core.Bool.{Bool, true, false, cond}
@@ -9,7 +9,6 @@ use mir.Syntax.{w16}
 use mir.Val.{SFits}
 use Rattle.floats.specs.Rounding.{halfUp, roundSat, rounded16}
 
--- ---- what is rounded to a sample is a sample
 low-fits : (k : ℕ) → k ≤ 32768 → SFits w16 (negℤ (pos k))
 low-fits zero h = record { sfits = lit< tt }
 low-fits (suc k) h = record { sfits = h }

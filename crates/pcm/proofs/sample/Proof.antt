@@ -4,7 +4,7 @@ use mathlib.Core.Path.{_≡_, sym, subst}
 use mir.Syntax.{w16, w32}
 use mir.Val.{SFits, toZ, ofZ}
 use mir.Facts.{sfits-widen}
-use lib.IntN.{ℤ, pos, _-ℤ_}
+use lib.IntN.{pos, _-ℤ_}
 use Prim.Native.Nat.{_+_, _*_, _%_}
 use Rattle.pcm.specs.laws.Integers.{settled}
 use Rattle.pcm.specs.Samples.{sampleOf}

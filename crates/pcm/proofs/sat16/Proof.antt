@@ -1,5 +1,5 @@
 -- `pcm::sat16` meets its contract: each return by the tests that led to it. Assumes nothing.
-use mathlib.Core.Path.{_≡_, ap, _∙_, sym, subst}
+use mathlib.Core.Path.{sym, subst}
 use lib.IntN.{pos, negsuc}
 use mir.Syntax.{w16, w32}
 use mir.Val.{SFits}

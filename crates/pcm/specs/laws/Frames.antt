@@ -1,4 +1,4 @@
--- Laws of the definitions in Frames. Assumes nothing.
+-- Bytes to frames and back, and buffers written at the front. Assumes nothing.
 use mathlib.Core.Path.{_≡_, refl, sym, ap, ap₂, _∙_}
 use mathlib.Core.List.{List, [], _∷_, _++_, map, append-assoc}
 use Prim.Native.Nat.{ℕ, zero, suc, _+_, _*_, _/_, _%_, _≤_, _<_}

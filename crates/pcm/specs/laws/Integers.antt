@@ -1,4 +1,4 @@
--- Laws of the definitions in Integers. Assumes nothing.
+-- Whole numbers: sums, products, order, sizes, rounded quotients, and signed machine numbers. Assumes nothing.
 use mathlib.Core.Path.{_≡_, refl, sym, ap, ap₂, _∙_, subst}
 use mathlib.Core.Logic.{_⊎_, inl, inr}
 use mathlib.Core.Bool.{Bool, true, false, not, cond}

@@ -1,9 +1,8 @@
--- The eight places of a chain's array, and a record written after others. Assumes nothing.
+-- The length of a list, from that of a map of it. Assumes nothing.
 use mathlib.Core.Path.{_≡_, sym, _∙_}
 use mathlib.Core.List.{List, map}
 use Prim.Native.Nat.{ℕ}
 use lib.ListN.{length, length-map}
 
--- the length of an array, from that of its elements' values
 pub unmapped : {A B : Type 0} (f : A → B) (l : List A) (n : ℕ) → length (map f l) ≡ n → length l ≡ n
 unmapped f l n e = sym (length-map l f) ∙ e

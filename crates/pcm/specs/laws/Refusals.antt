@@ -1,4 +1,4 @@
--- Laws of the definitions in Refusals. Assumes nothing.
+-- What an accepted call was asked. Assumes nothing.
 use mathlib.Core.Path.{_≡_, refl}
 use mathlib.Core.Bool.{Bool, true, false}
 use Prim.Native.Nat.{ℕ, _≤_}
@@ -9,7 +9,7 @@ use Rattle.pcm.specs.declared.Verdict.{Verdict}
 use Rattle.pcm.specs.declared.Verdict.the-variants.{Accepted}
 use Rattle.pcm.specs.Refusals.{ask, roomVerdict}
 
--- ---- yes to a question
+-- both of two questions are answered yes
 pub ask-yes : (t : Bool) (e : Error) (v : Verdict) → ask t e v ≡ Accepted → (t ≡ true) × (v ≡ Accepted)
 ask-yes true e v h = (refl, h)
 ask-yes false e v h = (cc, cc)

@@ -1,4 +1,4 @@
--- Laws of the definitions in Samples. Assumes nothing.
+-- Numbers held within limits, and bytes to samples and back. Assumes nothing.
 use mathlib.Core.Path.{_≡_, refl, sym, ap, ap₂, _∙_}
 use mathlib.Core.Bool.{Bool, true, false, cond}
 use mathlib.Core.List.{List, [], _∷_, _++_}
@@ -12,10 +12,11 @@ use lib.Signed.{ltZ}
 use mir.Syntax.{Width, w16}
 use mir.Val.{SFits, toZ, ofZ}
 use mir.Facts.{toZ-ofZ, ofZ-toZ, sfits-toZ, sfits-lit}
+use Rattle.pcm.specs.Integers.{−}
 use Rattle.pcm.specs.laws.Integers.{read-back}
 use Rattle.pcm.specs.Samples.{held, held16, sampleOf, lowOf, highOf, decode, encode, sampleAt, All, Bytes, Samples}
 
--- ---- laws: holding
+-- ---- holding
 module _ (low high z : ℤ) where
   pub held-low : ltZ z low ≡ true → low ≡ held low high z
   unfolding held
@@ -40,24 +41,24 @@ module _ (w : Width) (low high z : ℤ) (f : SFits w z) where
   pub tested-inside : ltZ (toZ w (ofZ w z)) low ≡ false → ltZ high (toZ w (ofZ w z)) ≡ false → toZ w (ofZ w z) ≡ held low high z
   tested-inside e k = read-back f ∙ held-inside low high z (rw (read-back f) at e) (rw (read-back f) at k)
 
-pub inside16 : (z : ℤ) → ltZ z (negsuc 32767) ≡ false → ltZ (pos 32767) z ≡ false → SFits w16 z
+pub inside16 : (z : ℤ) → ltZ z (− 32768) ≡ false → ltZ (pos 32767) z ≡ false → SFits w16 z
 inside16 (pos n) e k = record { sfits = omega (arith, ltb-false 32767 n k) }
 inside16 (negsuc n) e k = record { sfits = omega (arith, ltb-false 32767 n e) }
 
 pub held-fits : (z : ℤ) → SFits w16 (held16 z)
 unfolding held
-held-fits z = go (ltZ z (negsuc 32767)) (ltZ (pos 32767) z) refl refl
+held-fits z = go (ltZ z (− 32768)) (ltZ (pos 32767) z) refl refl
   where
-    go : (a b : Bool) → ltZ z (negsuc 32767) ≡ a → ltZ (pos 32767) z ≡ b → SFits w16 (cond a (negsuc 32767) (cond b (pos 32767) z))
+    go : (a b : Bool) → ltZ z (− 32768) ≡ a → ltZ (pos 32767) z ≡ b → SFits w16 (cond a (− 32768) (cond b (pos 32767) z))
     go true b e k = sfits-lit tt
     go false true e k = sfits-lit tt
     go false false e k = inside16 z e k
 
 pub held-sample : (z : ℤ) → SFits w16 z → held16 z ≡ z
-held-sample (pos n) f = sym (held-inside (negsuc 32767) (pos 32767) (pos n) refl (le-ltb 32767 n (omega (arith, f .sfits))))
-held-sample (negsuc n) f = sym (held-inside (negsuc 32767) (pos 32767) (negsuc n) (le-ltb 32767 n (omega (arith, f .sfits))) refl)
+held-sample (pos n) f = sym (held-inside (− 32768) (pos 32767) (pos n) refl (le-ltb 32767 n (omega (arith, f .sfits))))
+held-sample (negsuc n) f = sym (held-inside (− 32768) (pos 32767) (negsuc n) (le-ltb 32767 n (omega (arith, f .sfits))) refl)
 
--- ---- laws: bytes and samples, there and back
+-- ---- bytes and samples, there and back
 pub all-by-index : {A : Type 0} (P : A → Type 0) (d : A) (xs : List A) → ((i : ℕ) → i < length xs → P (getD xs i d)) → All P xs
 all-by-index P d [] h = tt
 all-by-index P d (x ∷ xs) h = (h zero (suc-le-suc zero-le), all-by-index P d xs (λ i l. h (suc i) (suc-le-suc l)))

@@ -1,4 +1,4 @@
--- A float that differs from itself is the NaN, one that does not is none; and which patterns are a NaN's. Assumes nothing.
+-- Two numbers compared, and answers yes and no. Assumes nothing.
 use mathlib.Core.Path.{_≡_, refl, ap}
 use mathlib.Core.Logic.{_⊎_, inl, inr}
 use Prim.Native.Nat.{ℕ, _<_, _≤_}
@@ -17,7 +17,6 @@ lt-or-ge a b = go (ltb a b) refl
 pub true-false : true ≡ false → ⊥
 true-false h = let z : _≡_ {A = ℕ} 0 1 = ap (λ (b : Bool). cond b 0 1) h in omega arith
 
--- ---- what suits
 pub both : (a b : Bool) → (a && b) ≡ true → (a ≡ true) × (b ≡ true)
 both true b e = (refl, e)
 both false b e = (cc, cc)

@@ -1,4 +1,4 @@
--- Laws of WritingBack.
+-- Bytes written to a buffer after other bytes. Assumes nothing.
 use mathlib.Core.Path.{_≡_, refl, sym, ap, ap₂, _∙_}
 use mathlib.Core.List.{List, _++_, append-assoc, [], append-nil}
 use Prim.Native.Nat.{ℕ, _-_}

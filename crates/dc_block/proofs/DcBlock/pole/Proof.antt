@@ -5,25 +5,18 @@ use mathlib.Core.Bool.{Bool, true, false}
 use Prim.Native.Nat.{ℕ}
 use lib.Ieee.{Float}
 use Rattle.pcm.specs.Formats.{rateAllowed}
-use Rattle.pcm.specs.Refusals.{numberOf, ifAccepted}
-use Rattle.floats.specs.Operations.{plusZero}
-use Rattle.dc_block.specs.DcBlock.{poleOf, poleVerdict, poleAnswer, poleTold}
+use Rattle.dc_block.specs.DcBlock.{poleOf, poleVerdict, poleAnswer, poleTold, poleValued}
 use Rattle.dc_block.specs.declared.PoleAnswer.{PoleAnswer}
 use Rattle.dc_block.specs.declared.PoleAnswer.the-variants.{Pole}
-use Rattle.dc_block.specs.declared.PoleTold.{PoleTold}
 use Rattle.dc_block.proofs.DcBlock.pole.Statement.{statement}
 use Rattle.dc_block.proofs.DcBlock.pole.Tie as tie
 
--- what the answer tells, by the question
-abbrev told : Float → ℕ → PoleTold
-told corner rate = record { number = numberOf (poleVerdict rate); pole = ifAccepted (poleVerdict rate) (poleOf corner rate) plusZero }
-
-told-is : (corner : Float) (rate : ℕ) (t : Bool) → rateAllowed rate ≡ t → poleTold (poleAnswer corner rate) ≡ told corner rate
+told-is : (corner : Float) (rate : ℕ) (t : Bool) → rateAllowed rate ≡ t → poleTold (poleAnswer corner rate) ≡ poleValued (poleVerdict rate) (poleOf corner rate)
 unfolding poleAnswer poleVerdict
 told-is corner rate true e = rw e
 told-is corner rate false e = rw e
 
-both : (corner : Float) (rate : ℕ) {a : PoleAnswer} → a ≡ poleAnswer corner rate → (a ≡ poleAnswer corner rate) × (poleTold a ≡ told corner rate)
+both : (corner : Float) (rate : ℕ) {a : PoleAnswer} → a ≡ poleAnswer corner rate → (a ≡ poleAnswer corner rate) × (poleTold a ≡ poleValued (poleVerdict rate) (poleOf corner rate))
 both corner rate e = (e, ap poleTold e ∙ told-is corner rate (rateAllowed rate) refl)
 
 radius-requires : tie.Need-radius-requires

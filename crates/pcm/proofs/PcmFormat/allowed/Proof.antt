@@ -1,12 +1,11 @@
 -- `pcm::PcmFormat::allowed` meets its contract. Assumes nothing.
 use borrow.Author.Needs.{needs}
-use mathlib.Core.Path.{_≡_, _∙_}
-use mathlib.Core.Bool.{true, _&&_}
+use mathlib.Core.Path.{_≡_}
+use mathlib.Core.Bool.{true}
 use Prim.Native.Nat.{ℕ, _<_, _≤_}
 use native.Mathlib.Omega.{arith}
 use borrow.Author.Tests.{lt-ltb, lt-leb, le-leb}
-use lib.Dec.{ltb, leb}
-use Rattle.pcm.specs.Formats.{formatAllowed, channelsAllowed, rateAllowed}
+use Rattle.pcm.specs.Formats.{formatAllowed, channelsAllowed}
 use Rattle.pcm.proofs.PcmFormat.allowed.Statement.{statement}
 use Rattle.pcm.proofs.PcmFormat.allowed.Tie as tie
 
