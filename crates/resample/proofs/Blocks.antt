@@ -22,7 +22,7 @@ use Rattle.resample.specs.Place.{Parts}
 use Rattle.resample.proofs.Place.{frame-is, past-frames}
 use Rattle.rates.specs.Rates.{start}
 use Rattle.resample.specs.Stage.{Ready, Looped, Processed}
-use Rattle.resample.proofs.Stage.{output-by-loop, next-by-loop}
+use Rattle.resample.proofs.Stage.{carried-by-loop, carried-state-by-loop}
 use Rattle.resample.specs.declared.Delivered.{Delivered}
 use Rattle.rates.specs.declared.ResamplerState.{ResamplerState}
 use Rattle.resample.proofs.Interpolating.{total}
@@ -64,7 +64,7 @@ module _ (ch i o : ℕ) (s : ResamplerState) (x : Frame) (input out₀ : List �
   some-frames = rw (length-frames ch input) some-frame
 
   by-loop : carriedOutputs i o s ys ≡ outputsFrom i o num (x ∷ ys)
-  by-loop = output-by-loop i o s ys some-frames ∙ outputs-same i o num (s .last) x ys (λ c h. same c (rw (length-frame ch input (r .whole) 0 some-frame) at h))
+  by-loop = carried-by-loop i o s ys some-frames ∙ outputs-same i o num (s .last) x ys (λ c h. same c (rw (length-frame ch input (r .whole) 0 some-frame) at h))
 
   pub loop-ready : Ready ch i o (outputsFrom i o (start o (s .primed) (s .phase)) (x ∷ framesOf ch input)) input out₀
   loop-ready = subst (λ (fs : List Frame). Ready ch i o fs input out₀) by-loop r
@@ -79,16 +79,16 @@ module _ (ch i o : ℕ) (s : ResamplerState) (x : Frame) (input out₀ : List �
       ∙ tabulate-ext ch (λ c. getD (getD ys g []) c (pos 0)) (λ c. sampleAt input ((g * ch + c) * 2)) (λ c k. sample-of ch input (r .whole) g c h k)
 
   module _ (out : List ℕ) (d : Delivered) (l : Looped i o (start o (s .primed) (s .phase)) (outputsFrom i o (start o (s .primed) (s .phase)) (x ∷ framesOf ch input)) out₀ out d) where
-    counted : d .frames ≡ count i num (length input / (ch * 2) * o)
-    counted = l .frames-are ∙ total ch i o num x input out₀ loop-ready
+    frames-counted : d .frames ≡ count i num (length input / (ch * 2) * o)
+    frames-counted = l .frames-are ∙ total ch i o num x input out₀ loop-ready
 
     past-block : length input / (ch * 2) ≤ d .at .frame
     past-block =
-        let e : length input / (ch * 2) * o ≤ num + d .frames * i = rw counted (count-reach i (r .in-r .0) num (length input / (ch * 2) * o)) in
+        let e : length input / (ch * 2) * o ≤ num + d .frames * i = rw frames-counted (count-reach i (r .in-r .0) num (length input / (ch * 2) * o)) in
         subst (λ (g : ℕ). length input / (ch * 2) ≤ g) (frame-is o (num + d .frames * i) (d .at) (l .place)) (le-div-iff-mul-le {x = length input / (ch * 2)} {y = num + d .frames * i} (r .out-r .0) .1 e)
 
     phase-carried : (d .at .frame - length input / (ch * 2)) * o + (d .at .frac * o + d .at .over) / 4294967296 ≡ past i num (length input / (ch * 2) * o)
-    phase-carried = past-frames o (num + d .frames * i) (d .at) (l .place) (length input / (ch * 2)) past-block ∙ ap (λ (k : ℕ). num + k * i - length input / (ch * 2) * o) counted
+    phase-carried = past-frames o (num + d .frames * i) (d .at) (l .place) (length input / (ch * 2)) past-block ∙ ap (λ (k : ℕ). num + k * i - length input / (ch * 2) * o) frames-counted
 
     -- what the way past the block asks
     pub past-ready : start o (s .primed) (s .phase) < 2 ^ 64 → (Parts o (d .at) × (o ≤ 384000))
@@ -106,5 +106,5 @@ module _ (ch i o : ℕ) (s : ResamplerState) (x : Frame) (input out₀ : List �
       bytes-are = rw by-loop (l .bytes-are);
       state-is =
           ap₂ (λ (f : List ℤ) (q : ℕ). record { last = f; phase = q; primed = true }) (e ∙ ap padded (sym newest-samples)) (f ∙ phase-carried)
-          ∙ sym (next-by-loop i o s x ys some-frames ∙ ap (λ (n : ℕ). holding (newest x ys) (past i num (n * o))) (length-frames ch input));
+          ∙ sym (carried-state-by-loop i o s x ys some-frames ∙ ap (λ (n : ℕ). holding (newest x ys) (past i num (n * o))) (length-frames ch input));
     }

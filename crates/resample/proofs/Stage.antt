@@ -42,10 +42,10 @@ module _ (i o : ℕ) where
       outputs-append i o o x (y ∷ []) ys
       ∙ ap₂ (λ (n p : ℕ). tabulate n (λ j. outputAt o (x ∷ y ∷ []) (o + j * i)) ++ outputsFrom i o p (y ∷ ys)) none-before past-first
 
-  pub output-by-loop : (s : ResamplerState) (ys : List Frame) → 0 < length ys → carriedOutputs i o s ys ≡ outputsFrom i o (start o (s .primed) (s .phase)) (s .last ∷ ys)
+  pub carried-by-loop : (s : ResamplerState) (ys : List Frame) → 0 < length ys → carriedOutputs i o s ys ≡ outputsFrom i o (start o (s .primed) (s .phase)) (s .last ∷ ys)
   unfolding carriedOutputs among firstAt start
-  output-by-loop s [] h = absurd (not-suc-le-zero h)
-  output-by-loop s (y ∷ ys) h = go (s .primed)
+  carried-by-loop s [] h = absurd (not-suc-le-zero h)
+  carried-by-loop s (y ∷ ys) h = go (s .primed)
     where
       go : (b : Bool) → outputsFrom i o (cond b (s .phase) 0) (cond b (s .last ∷ y ∷ ys) (y ∷ ys)) ≡ outputsFrom i o (cond b (s .phase) o) (s .last ∷ y ∷ ys)
       go true = refl
@@ -56,10 +56,10 @@ module _ (i o : ℕ) where
       let e : suc n * o ≡ 1 * o + n * o = omega arith in
       ap (past i o) e ∙ past-sum i o (1 * o) (n * o) ∙ ap (λ (p : ℕ). past i p (n * o)) past-first
 
-  pub next-by-loop : (s : ResamplerState) (x : Frame) (ys : List Frame) → 0 < length ys → carriedState i o s ys ≡ holding (newest x ys) (past i (start o (s .primed) (s .phase)) (length ys * o))
+  pub carried-state-by-loop : (s : ResamplerState) (x : Frame) (ys : List Frame) → 0 < length ys → carriedState i o s ys ≡ holding (newest x ys) (past i (start o (s .primed) (s .phase)) (length ys * o))
   unfolding carriedState among firstAt start
-  next-by-loop s x [] h = absurd (not-suc-le-zero h)
-  next-by-loop s x (y ∷ ys) h = ap (holding (newest y ys)) (go (s .primed))
+  carried-state-by-loop s x [] h = absurd (not-suc-le-zero h)
+  carried-state-by-loop s x (y ∷ ys) h = ap (holding (newest y ys)) (go (s .primed))
     where
       go : (b : Bool) → past i (cond b (s .phase) 0) (gaps (cond b (s .last ∷ y ∷ ys) (y ∷ ys)) * o) ≡ past i (cond b (s .phase) o) (length (y ∷ ys) * o)
       go true = refl

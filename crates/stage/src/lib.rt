@@ -4,7 +4,6 @@ ghost use mathlib.Core.Bool.{true, false, _&&_};
 ghost use Prim.Native.Nat.{_*_, _≤_};
 ghost use lib.Dec.{eqb, leb, ltb};
 ghost use Rattle.pcm.specs.Samples.{Samples};
-ghost use Rattle.rates.specs.Rates.{Rates};
 ghost use Rattle.stage.specs.Rooms.{ratesSuit, stageSuits, framesOut, framesWanted, Bounded};
 ghost use Rattle.stage.specs.Stages.{formatAfter, memoryAsOpened, remembers, stageAsOpened, stageClear};
 use biquad::Biquad;

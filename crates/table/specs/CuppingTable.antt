@@ -2,13 +2,13 @@
 use mathlib.Core.Path.{_≡_, refl}
 use mathlib.Core.Bool.{true, false}
 use mathlib.Core.List.{List, [], _∷_, map}
-use Prim.Native.Nat.{ℕ}
-use lib.IntN.{pos, negsuc}
-use lib.Ieee.{fin, binary32, ofInt, div, add, sub, mul, round}
+use Prim.Native.Nat.{ℕ, _+_, _-_, _*_, _^_}
+use lib.IntN.{pos}
+use lib.Ieee.{Float, fin, neg, ofInt, add, sub, mul, round}
+use Rattle.pcm.specs.Integers.{−}
 use Rattle.pcm.specs.Samples.{held}
-use Rattle.floats.specs.Rounding.{roundSat, halfUp}
+use Rattle.floats.specs.Rounding.{roundSat, rounded16, halfUp}
 use Rattle.pcm.specs.Frames.{Frame}
-use Rattle.floats.specs.Operations.{_/₃₂_}
 use Rattle.filters.specs.Filters.{atRest, filtered}
 use Rattle.gain.specs.Gain.{heldFactor, scaled}
 use Rattle.channels.specs.Channels.{mixdown, mean, mixed}
@@ -28,17 +28,22 @@ use Rattle.recipe.specs.Records.{recordVerdict, recordOf, recordBytes}
 use Rattle.pipeline.specs.Opening.{opened, refused, openStages, chainOf, openCall}
 use Rattle.opening.specs.Opening.{stageVerdict}
 
+-- the float n and a half: m * 2 ^ e with the odd m of 2 * n + 1 halves
+infixl 90 _·5
+abbrev _·5 : ℕ → Float
+n ·5 = fin false (2 * n + 1) (− 1)
+
 -- frames of one channel
 abbrev mono : List ℕ → List Frame
 mono xs = map (λ (x : ℕ). pos x ∷ []) xs
 
 -- (a) gain 16,384 on 1, -1, 3, -3: 1, 0, 2, -1
-a : map (scaled (pos 16384)) (pos 1 ∷ negsuc 0 ∷ pos 3 ∷ negsuc 2 ∷ []) ≡ pos 1 ∷ pos 0 ∷ pos 2 ∷ negsuc 0 ∷ []
+a : map (scaled (pos 16384)) (pos 1 ∷ − 1 ∷ pos 3 ∷ − 3 ∷ []) ≡ pos 1 ∷ pos 0 ∷ pos 2 ∷ − 1 ∷ []
 unfolding scaled held
 a = refl
 
 -- (b) gain -32,768 on -32,768: 32,767
-b : scaled (negsuc 32767) (negsuc 32767) ≡ pos 32767
+b : scaled (− 32768) (− 32768) ≡ pos 32767
 unfolding scaled held
 b = refl
 
@@ -48,7 +53,7 @@ unfolding heldFactor held
 c = refl
 
 -- (d) mono of (1, 2) is 1, of (-1, -2) is -2
-d : map mixdown ((pos 1 ∷ pos 2 ∷ []) ∷ (negsuc 0 ∷ negsuc 1 ∷ []) ∷ []) ≡ (pos 1 ∷ []) ∷ (negsuc 1 ∷ []) ∷ []
+d : map mixdown ((pos 1 ∷ pos 2 ∷ []) ∷ (− 1 ∷ − 2 ∷ []) ∷ []) ≡ (pos 1 ∷ []) ∷ (− 2 ∷ []) ∷ []
 unfolding mean
 d = refl
 
@@ -78,17 +83,17 @@ unfolding resampledWhole wholeOutputs outputAt blend interpolated reduced gcd la
 h = refl
 
 -- (i) DC block with r one half, mono, samples 100, 100, 0: 100, 50, -75
-i : filtered (dcTick (ofInt binary32 (pos 1) /₃₂ ofInt binary32 (pos 2))) (atRest ∷ []) (mono (100 ∷ 100 ∷ 0 ∷ [])) ≡ (pos 100 ∷ []) ∷ (pos 50 ∷ []) ∷ (negsuc 74 ∷ []) ∷ []
-unfolding dcTick roundSat halfUp ofInt div add sub mul round
+i : filtered (dcTick (0 ·5)) (atRest ∷ []) (mono (100 ∷ 100 ∷ 0 ∷ [])) ≡ (pos 100 ∷ []) ∷ (pos 50 ∷ []) ∷ (− 75 ∷ []) ∷ []
+unfolding dcTick roundSat halfUp ofInt add sub mul round
 i = refl
 
--- (j) rounding 0.5, -0.5, 2.5, 32,767.5: 1, -1, 3, 32,767. A float is m * 2 ^ e with its sign
-j : map (roundSat 32768 32767) (fin false 1 (negsuc 0) ∷ fin true 1 (negsuc 0) ∷ fin false 5 (negsuc 0) ∷ fin false 65535 (negsuc 0) ∷ []) ≡ pos 1 ∷ negsuc 0 ∷ pos 3 ∷ pos 32767 ∷ []
-unfolding roundSat halfUp
+-- (j) rounding 0.5, -0.5, 2.5, 32,767.5: 1, -1, 3, 32,767
+j : map (rounded16) (0 ·5 ∷ neg (0 ·5) ∷ 2 ·5 ∷ 32767 ·5 ∷ []) ≡ pos 1 ∷ − 1 ∷ pos 3 ∷ pos 32767 ∷ []
+unfolding roundSat halfUp neg
 j = refl
 
--- 'Baked in by haste': just under one half, where adding 0.5 in binary32 gives 1
-just-under-half : roundSat 32768 32767 (fin false 16777215 (negsuc 24)) ≡ pos 0
+-- 'Baked in by haste': just under one half, (2^24 - 1) * 2^-25, where adding 0.5 in binary32 gives 1
+just-under-half : rounded16 (fin false (2 ^ 24 - 1) (− 25)) ≡ pos 0
 unfolding roundSat halfUp
 just-under-half = refl
 

@@ -20,7 +20,8 @@ use Rattle.stage.specs.declared.Stage.{Stage}
 use Rattle.stage.specs.Stages.{stageOut, stageNext, formatAfter}
 use Rattle.stage.specs.laws.Stages.{stage-out-nil}
 use Rattle.stage.specs.Rooms.{stageSuits, framesOut, roomWanted, Served, Serves}
-use Rattle.stage.specs.laws.Rooms.{stage-count, room-holds-bytes, channels-after}
+use Rattle.stage.specs.Theorems.{room-holds-bytes}
+use Rattle.stage.specs.laws.Rooms.{stage-count, channels-after}
 use Rattle.pipeline.specs.declared.Pipeline.{Pipeline}
 use Rattle.block.specs.Chain.{chainOut, chainNext}
 use Rattle.block.specs.laws.Chain.{chain-out-nil, chain-next-nil}

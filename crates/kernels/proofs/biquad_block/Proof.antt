@@ -1,6 +1,5 @@
 -- `kernels::biquad_block` meets its contract. Assumes nothing.
 use borrow.Author.Needs.{needs}
-use mathlib.Core.Path.{_≡_}
 use Rattle.kernels.proofs.biquad_block.Statement.{statement}
 use Rattle.kernels.proofs.biquad_block.Tie as tie
 

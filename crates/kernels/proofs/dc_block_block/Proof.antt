@@ -1,6 +1,5 @@
 -- `kernels::dc_block_block` meets its contract. Assumes nothing.
 use borrow.Author.Needs.{needs}
-use mathlib.Core.Path.{_≡_}
 use Rattle.kernels.proofs.dc_block_block.Statement.{statement}
 use Rattle.kernels.proofs.dc_block_block.Tie as tie
 

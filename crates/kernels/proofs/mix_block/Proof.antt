@@ -1,6 +1,6 @@
 -- `kernels::mix_block` meets its contract. Assumes nothing.
 use borrow.Author.Needs.{needs}
-use mathlib.Core.Path.{_≡_, ap, _∙_}
+use mathlib.Core.Path.{ap, _∙_}
 use Rattle.pcm.specs.Refusals.{numberOf}
 use Rattle.kernels.proofs.mix_block.Statement.{statement}
 use Rattle.kernels.proofs.mix_block.Tie as tie

@@ -1,6 +1,5 @@
 -- `kernels::resample_block` meets its contract. Assumes nothing.
 use borrow.Author.Needs.{needs}
-use mathlib.Core.Path.{_≡_, sym}
 use Rattle.kernels.proofs.resample_block.Statement.{statement}
 use Rattle.kernels.proofs.resample_block.Tie as tie
 

@@ -100,8 +100,8 @@ by-step : (P : ℕ → Type 0) → P 0 → ((i : ℕ) → 0 < i → P i) → (i 
 by-step P z h zero = z
 by-step P z h (suc i) = h (suc i) (suc-le-suc zero-le)
 
-pub counted : (i p D j : ℕ) → j < count i p D → 0 < i
-counted i p D j h = pick (eq-zero-or-pos i)
+pub step-positive : (i p D j : ℕ) → j < count i p D → 0 < i
+step-positive i p D j h = pick (eq-zero-or-pos i)
   where
     pick : (i ≡ zero) ⊎ (zero < i) → 0 < i
     pick (inl e) = let z : j < count 0 p D = rw e at h in absurd (omega (arith, count-none p D))
@@ -118,8 +118,8 @@ past-sum i p D E = by-step (λ n. past n p (D + E) ≡ past n (past n p D) E) (o
 pub count-none-past : (i p D : ℕ) → D ≤ p → count i p D ≡ 0
 count-none-past i p D l = by-step (λ n. count n p D ≡ 0) (count-none p D) (λ n h. let e : count n p D ≤ 0 = count-least n h p D 0 (omega arith) in omega arith) i
 
-pub factor : (n o num : ℕ) → num < n * o → 0 < o
-factor n o num h = pick (eq-zero-or-pos o)
+pub factor-positive : (n o num : ℕ) → num < n * o → 0 < o
+factor-positive n o num h = pick (eq-zero-or-pos o)
   where
     pick : (o ≡ zero) ⊎ (zero < o) → 0 < o
     pick (inl e) = absurd (omega (arith, rw e at h))

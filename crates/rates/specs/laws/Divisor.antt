@@ -2,7 +2,7 @@
 use mathlib.Core.Path.{_≡_, refl, sym, subst}
 use mathlib.Core.Bool.{Bool, true, false, cond}
 use Prim.Native.Nat.{ℕ, zero, suc, _*_, _/_, _%_, _≤_, _<_, _∣_, suc-le-suc, zero-le}
-use native.Mathlib.Nat.{le-refl, le-antisymm, not-suc-le-zero, mod-lt, one-mul, div-le-self, dvd-refl, dvd-zero, dvd-mod-iff, le-of-dvd, pos-of-dvd-of-pos, mod-eq-zero-of-dvd, dvd-of-mod-eq-zero, div-mul-cancel, mul-dvd-mul-right, dvd-of-mul-dvd-mul-right, eq-one-of-dvd-one}
+use native.Mathlib.Nat.{le-refl, le-antisymm, not-suc-le-zero, mod-lt, div-le-self, dvd-refl, dvd-zero, dvd-mod-iff, le-of-dvd, pos-of-dvd-of-pos, mod-eq-zero-of-dvd, dvd-of-mod-eq-zero, div-mul-cancel}
 use native.Mathlib.Omega.{arith}
 use lib.Dec.{eqb}
 use borrow.Author.Tests.{eqb-true, eqb-false}
@@ -19,7 +19,7 @@ gcd-step {a} {b} {g} r = record {
 pub gcd-zero : (a : ℕ) → GreatestCommonDivisor a 0 a
 gcd-zero a = record { first = dvd-refl a; second = dvd-zero a; greatest = λ d u v. u }
 
-pub euclid : (f a b : ℕ) → b ≤ f → (g : ℕ) × GreatestCommonDivisor a b g
+euclid : (f a b : ℕ) → b ≤ f → (g : ℕ) × GreatestCommonDivisor a b g
 euclid zero a zero h = (a, gcd-zero a)
 euclid zero a (suc b) h = absurd (not-suc-le-zero h)
 euclid (suc f) a zero h = (a, gcd-zero a)
@@ -52,19 +52,6 @@ module _ (a b : ℕ) (h : 0 < a) where
 
   pub gcd-positive : 0 < gcd a b
   gcd-positive = pos-of-dvd-of-pos (gcd-is .first) h
-
-  -- and it is the largest of them
-  pub gcd-largest : (d : ℕ) → d ∣ a → d ∣ b → d ≤ gcd a b
-  gcd-largest d u v = le-of-dvd gcd-positive (gcd-is .greatest d u v)
-
-  -- the reduced rates have no common divisor but 1
-  pub reduced-coprime : (d : ℕ) → d ∣ a / gcd a b → d ∣ b / gcd a b → d ≡ 1
-  reduced-coprime d u v =
-      let g : ℕ = gcd a b in
-      let x : d * g ∣ a = rw (div-mul-cancel g (gcd-is .first)) at (mul-dvd-mul-right d u g) in
-      let y : d * g ∣ b = rw (div-mul-cancel g (gcd-is .second)) at (mul-dvd-mul-right d v g) in
-      let z : d * g ∣ 1 * g = rw one-mul (gcd-is .greatest (d * g) x y) in
-      eq-one-of-dvd-one (dvd-of-mul-dvd-mul-right {k = g} d {n = 1} gcd-positive z)
 
   -- what is left of a rate that it divides
   pub reduced-rate : (n : ℕ) → 0 < n → gcd a b ∣ n → (0 < n / gcd a b) × (n / gcd a b ≤ n)

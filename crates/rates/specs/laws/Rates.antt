@@ -1,17 +1,20 @@
 -- Laws of the definitions in Rates. Assumes nothing.
-use mathlib.Core.Path.{_≡_, sym, ap, _∙_}
-use mathlib.Core.Bool.{true}
-use Prim.Native.Nat.{ℕ, _*_, _/_, _≤_, _<_}
-use native.Mathlib.Nat.{div-mul-cancel, le-trans}
+use mathlib.Core.Path.{_≡_, sym, ap, ap₂, _∙_}
+use mathlib.Core.Bool.{Bool, true, false}
+use Prim.Native.Nat.{ℕ, _-_, _*_, _/_, _≤_, _<_}
+use native.Mathlib.Nat.{div-mul-cancel, le-trans, le-refl, le-of-mul-le-mul-right, mul-le-mul-right}
 use native.Mathlib.Omega.{arith}
 use borrow.Author.Tests.{leb-true, ltb-true}
 use lib.Dec.{leb, ltb}
 use Rattle.pcm.specs.Formats.{rateAllowed}
+use Rattle.rates.specs.Counting.{ceilDiv, count}
+use Rattle.rates.specs.laws.Counting.{count-least, ceil-reach, ceil-scale}
 use Rattle.rates.specs.Divisor.{gcd}
 use Rattle.rates.specs.laws.Divisor.{gcd-is, reduced-rate}
+use Rattle.rates.specs.declared.LinearResampler.{LinearResampler}
 use Rattle.rates.specs.declared.NewResampler.the-variants as New
 use Rattle.pcm.specs.laws.Tests.{both}
-use Rattle.rates.specs.Rates.{ratesAllowed, reduced, resamplerOf, Rates}
+use Rattle.rates.specs.Rates.{ratesAllowed, reduced, resamplerOf, carriedCount, Rates}
 
 rate-within : (rate : ℕ) → rateAllowed rate ≡ true → (0 < rate) × (rate ≤ 384000)
 unfolding rateAllowed
@@ -45,3 +48,27 @@ module _ (input output : ℕ) (h : ratesAllowed input output ≡ true) where
   pub opened-made : resamplerOf input output ≡ New.Made (reduced input output)
   unfolding resamplerOf
   opened-made = rw h
+
+-- ---- ceilings by the rates and by in_r and out_r
+module _ (r : LinearResampler) (k : Rates r) (n : ℕ) where
+  pub room-reaches : n * r .«out_rate» ≤ ceilDiv (n * r .«out_rate») (r .«in_rate») * r .«in_rate»
+  room-reaches = ceil-reach (r .«in_rate») (k .input-rate .0) (n * r .«out_rate»)
+
+  reduced-reaches : n * r .«out_r» ≤ ceilDiv (n * r .«out_rate») (r .«in_rate») * r .«in_r»
+  reduced-reaches =
+      le-of-mul-le-mul-right {k = r .«in_rate»} (omega (arith, ap (λ (m : ℕ). n * m) (k .same-ratio), mul-le-mul-right (r .«in_r») room-reaches)) (k .input-rate .0)
+
+  counted-in-room : (p D : ℕ) → D ≤ n * r .«out_r» → count (r .«in_r») p D ≤ ceilDiv (n * r .«out_rate») (r .«in_rate»)
+  counted-in-room p D h = count-least (r .«in_r») (k .in-r .0) p D (ceilDiv (n * r .«out_rate») (r .«in_rate»)) (omega (arith, reduced-reaches))
+
+  pub carried-in-room : (primed : Bool) (phase : ℕ) → carriedCount (r .«in_r») (r .«out_r») primed phase n ≤ ceilDiv (n * r .«out_rate») (r .«in_rate»)
+  unfolding carriedCount
+  carried-in-room true phase = counted-in-room phase (n * r .«out_r») (le-refl (n * r .«out_r»))
+  carried-in-room false phase = counted-in-room 0 ((n - 1) * r .«out_r») (mul-le-mul-right (r .«out_r») (omega arith))
+
+  pub ceil-by-rates : ceilDiv (n * r .«out_r») (r .«in_r») ≡ ceilDiv (n * r .«out_rate») (r .«in_rate»)
+  ceil-by-rates =
+      let e : n * r .«out_r» * r .«in_rate» ≡ n * r .«out_rate» * r .«in_r» = omega (arith, ap (λ (m : ℕ). n * m) (k .same-ratio)) in
+      let f : r .«in_r» * r .«in_rate» ≡ r .«in_rate» * r .«in_r» = omega arith in
+      sym (ceil-scale (n * r .«out_r») (r .«in_r») (r .«in_rate») (k .in-r .0) (k .input-rate .0))
+      ∙ ap₂ ceilDiv e f ∙ ceil-scale (n * r .«out_rate») (r .«in_rate») (r .«in_r») (k .input-rate .0) (k .in-r .0)

@@ -1,13 +1,13 @@
 -- Laws of the definitions in Blocks. Assumes nothing.
 use mathlib.Core.Path.{_≡_, sym, ap, _∙_}
-use mathlib.Core.Bool.{false, cond}
+use mathlib.Core.Bool.{cond}
 use mathlib.Core.List.{List, [], _∷_, _++_}
 use lib.Dec.{eqb}
 use Rattle.pcm.specs.Frames.{Frame, flat}
 use Rattle.rates.specs.Rates.{openedState}
-use Rattle.resample.specs.Resample.{wholeOutputs, resampled, stateAfter, resampledWhole, stateWhole}
+use Rattle.resample.specs.Resample.{resampled, stateAfter, resampledWhole, stateWhole}
 use Rattle.resample.specs.laws.Cut.{resampled-nil, state-nil, resampled-append, state-append}
-use Rattle.resample.specs.laws.Delivered.{output-is-delivered, next-is-sound-state}
+use Rattle.resample.specs.laws.Delivered.{carried-is-whole, carried-state-is-whole}
 use Rattle.rates.specs.declared.LinearResampler.{LinearResampler}
 use Rattle.rates.specs.declared.ResamplerState.{ResamplerState}
 use Rattle.resample.specs.Blocks.{joined, afterBlocks}
@@ -25,18 +25,8 @@ module _ (r : LinearResampler) where
   -- of an opened stage: document 01's closed form
   pub resampled-is-whole : (X : List Frame) → resampled r openedState X ≡ resampledWhole r X
   unfolding resampled resampledWhole
-  resampled-is-whole X = ap (cond (eqb (r .«in_rate») (r .«out_rate»)) X) (output-is-delivered (r .«in_r») (r .«out_r») X)
+  resampled-is-whole X = ap (cond (eqb (r .«in_rate») (r .«out_rate»)) X) (carried-is-whole (r .«in_r») (r .«out_r») X)
 
   pub state-is-whole : (X : List Frame) → stateAfter r openedState X ≡ stateWhole r X
   unfolding stateAfter stateWhole
-  state-is-whole X = ap (cond (eqb (r .«in_rate») (r .«out_rate»)) openedState) (next-is-sound-state (r .«in_r») (r .«out_r») X)
-
-  pub whole-unequal : (X : List Frame) → eqb (r .«in_rate») (r .«out_rate») ≡ false → resampledWhole r X ≡ wholeOutputs (r .«in_r») (r .«out_r») X
-  unfolding resampledWhole
-  whole-unequal X e = rw e
-
-  pub joined-is-whole : (bs : List (List Frame)) → joined r openedState bs ≡ resampledWhole r (flat bs)
-  joined-is-whole bs = joined-is-resampled openedState bs ∙ resampled-is-whole (flat bs)
-
-  pub after-blocks-is-whole : (bs : List (List Frame)) → afterBlocks r openedState bs ≡ stateWhole r (flat bs)
-  after-blocks-is-whole bs = after-blocks-is-state openedState bs ∙ state-is-whole (flat bs)
+  state-is-whole X = ap (cond (eqb (r .«in_rate») (r .«out_rate»)) openedState) (carried-state-is-whole (r .«in_r») (r .«out_r») X)

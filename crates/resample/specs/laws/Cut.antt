@@ -10,7 +10,7 @@ use lib.IntN.{ℤ, pos}
 use lib.ListN.{length, getD, length-append, List·getD-append}
 use Rattle.pcm.specs.Frames.{Frame}
 use Rattle.rates.specs.Counting.{tabulate, count, past}
-use Rattle.rates.specs.laws.Counting.{tabulate-ext, tabulate-add, count-before, past-is, counted, count-sum, past-sum, count-none-past, factor}
+use Rattle.rates.specs.laws.Counting.{tabulate-ext, tabulate-add, count-before, past-is, step-positive, count-sum, past-sum, count-none-past, factor-positive}
 use Rattle.resample.specs.Value.{value}
 use Rattle.resample.specs.Resample.{blend, outputAt, gaps, newest, padded, holding, among, firstAt, outputsFrom, carriedOutputs, carriedState, resampled, stateAfter}
 use Rattle.rates.specs.declared.LinearResampler.{LinearResampler}
@@ -33,7 +33,7 @@ module _ (o : ℕ) (x : Frame) (ys zs : List Frame) where
   output-before : (num : ℕ) → num < length ys * o → outputAt o (x ∷ (ys ++ zs)) num ≡ outputAt o (x ∷ ys) num
   unfolding outputAt
   output-before num h =
-      let g : num / o < length ys = div-lt-iff-lt-mul (factor (length ys) o num h) .1 h in
+      let g : num / o < length ys = div-lt-iff-lt-mul (factor-positive (length ys) o num h) .1 h in
       ap₂ (λ (a b : Frame). blend o a b (num % o))
       (List·getD-append (x ∷ ys) zs [] (num / o) (omega arith))
       (List·getD-append (x ∷ ys) zs [] (suc (num / o)) (suc-le-suc g))
@@ -91,7 +91,7 @@ module _ (i o : ℕ) where
       ∙ ap (λ (n : ℕ). tabulate n (λ j. outputAt o (x ∷ (ys ++ zs)) (p + j * i))) (count-sum i p D E)
       ∙ tabulate-add K (count i q E) (λ j. outputAt o (x ∷ (ys ++ zs)) (p + j * i))
       ∙ ap₂ (λ (u v : List Frame). u ++ v)
-      (tabulate-ext K (λ j. outputAt o (x ∷ (ys ++ zs)) (p + j * i)) (λ j. outputAt o (x ∷ ys) (p + j * i)) (λ j h. output-before o x ys zs (p + j * i) (count-before i (counted i p D j h) p D j h)))
+      (tabulate-ext K (λ j. outputAt o (x ∷ (ys ++ zs)) (p + j * i)) (λ j. outputAt o (x ∷ ys) (p + j * i)) (λ j h. output-before o x ys zs (p + j * i) (count-before i (step-positive i p D j h) p D j h)))
       (tabulate-ext (count i q E) (λ j. outputAt o (x ∷ (ys ++ zs)) (p + (K + j) * i)) (λ j. outputAt o (newest x ys ∷ zs) (q + j * i)) after)
     where
       after : (j : ℕ) → j < count i (past i p (length ys * o)) (length zs * o)
@@ -100,30 +100,30 @@ module _ (i o : ℕ) where
           let D : ℕ = length ys * o in
           let E : ℕ = length zs * o in
           let q : ℕ = past i p D in
-          let hi : 0 < i = counted i q E j h in
+          let hi : 0 < i = step-positive i q E j h in
           let e : p + (count i p D + j) * i ≡ D + (q + j * i) = omega (arith, past-is i hi p D) in
-          ap (outputAt o (x ∷ (ys ++ zs))) e ∙ output-after o x ys zs (q + j * i) (factor (length zs) o (q + j * i) (count-before i hi q E j h))
+          ap (outputAt o (x ∷ (ys ++ zs))) e ∙ output-after o x ys zs (q + j * i) (factor-positive (length zs) o (q + j * i) (count-before i hi q E j h))
 
   none : (p : ℕ) → count i p (zero * o) ≡ 0
   none p = count-none-past i p (zero * o) (omega arith)
 
   -- ---- the laws that a chain needs
-  pub output-nil : (s : ResamplerState) → carriedOutputs i o s [] ≡ []
+  pub carried-nil : (s : ResamplerState) → carriedOutputs i o s [] ≡ []
   unfolding carriedOutputs outputsFrom among firstAt
-  output-nil s = go (s .primed)
+  carried-nil s = go (s .primed)
     where
       go : (b : Bool) → tabulate (count i (cond b (s .phase) 0) (gaps (cond b (s .last ∷ []) []) * o)) (λ j. outputAt o (cond b (s .last ∷ []) []) (cond b (s .phase) 0 + j * i)) ≡ []
       go true = ap (λ (n : ℕ). tabulate n (λ j. outputAt o (s .last ∷ []) (s .phase + j * i))) (none (s .phase))
       go false = ap (λ (n : ℕ). tabulate n (λ j. outputAt o [] (0 + j * i))) (none 0)
 
-  pub next-nil : (s : ResamplerState) → carriedState i o s [] ≡ s
+  pub carried-state-nil : (s : ResamplerState) → carriedState i o s [] ≡ s
   unfolding carriedState
-  next-nil s = refl
+  carried-state-nil s = refl
 
-  pub output-append : (s : ResamplerState) (xs ys : List Frame) → carriedOutputs i o s (xs ++ ys) ≡ carriedOutputs i o s xs ++ carriedOutputs i o (carriedState i o s xs) ys
+  pub carried-append : (s : ResamplerState) (xs ys : List Frame) → carriedOutputs i o s (xs ++ ys) ≡ carriedOutputs i o s xs ++ carriedOutputs i o (carriedState i o s xs) ys
   unfolding carriedOutputs carriedState among firstAt
-  output-append s [] ys = sym (ap (λ (l : List Frame). l ++ carriedOutputs i o s ys) (output-nil s))
-  output-append s (x ∷ xs) ys = go (s .primed) refl
+  carried-append s [] ys = sym (ap (λ (l : List Frame). l ++ carriedOutputs i o s ys) (carried-nil s))
+  carried-append s (x ∷ xs) ys = go (s .primed) refl
     where
       go : (b : Bool) → s .primed ≡ b → carriedOutputs i o s (x ∷ (xs ++ ys)) ≡ carriedOutputs i o s (x ∷ xs) ++ carriedOutputs i o (carriedState i o s (x ∷ xs)) ys
       go true e = rw e
@@ -133,11 +133,11 @@ module _ (i o : ℕ) where
           (outputs-append 0 x xs ys
           ∙ ap (λ (l : List Frame). outputsFrom i o 0 (x ∷ xs) ++ l) (sym (outputs-padded (past i 0 (length xs * o)) (newest x xs) ys)))
 
-  pub next-append : (s : ResamplerState) (xs ys : List Frame) → carriedState i o s (xs ++ ys) ≡ carriedState i o (carriedState i o s xs) ys
+  pub carried-state-append : (s : ResamplerState) (xs ys : List Frame) → carriedState i o s (xs ++ ys) ≡ carriedState i o (carriedState i o s xs) ys
   unfolding carriedState among firstAt
-  next-append s [] ys = refl
-  next-append s (x ∷ xs) [] = ap (λ (l : List Frame). carriedState i o s (x ∷ l)) (append-nil xs)
-  next-append s (x ∷ xs) (y ∷ ys) = go (s .primed) refl
+  carried-state-append s [] ys = refl
+  carried-state-append s (x ∷ xs) [] = ap (λ (l : List Frame). carriedState i o s (x ∷ l)) (append-nil xs)
+  carried-state-append s (x ∷ xs) (y ∷ ys) = go (s .primed) refl
     where
       go : (b : Bool) → s .primed ≡ b → carriedState i o s (x ∷ (xs ++ (y ∷ ys))) ≡ carriedState i o (carriedState i o s (x ∷ xs)) (y ∷ ys)
       go true e = rw e (ap₂ holding (newest-append x xs (y ∷ ys)) (ap (past i (s .phase)) (gaps-append o (x ∷ xs) (y ∷ ys)) ∙ past-sum i (s .phase) (length (x ∷ xs) * o) (length (y ∷ ys) * o)))
@@ -151,7 +151,7 @@ module _ (r : LinearResampler) where
     where
       go : (b : Bool) → cond b [] (carriedOutputs (r .«in_r») (r .«out_r») s []) ≡ []
       go true = refl
-      go false = output-nil (r .«in_r») (r .«out_r») s
+      go false = carried-nil (r .«in_r») (r .«out_r») s
 
   pub state-nil : (s : ResamplerState) → stateAfter r s [] ≡ s
   unfolding stateAfter
@@ -159,7 +159,7 @@ module _ (r : LinearResampler) where
     where
       go : (b : Bool) → cond b s (carriedState (r .«in_r») (r .«out_r») s []) ≡ s
       go true = refl
-      go false = next-nil (r .«in_r») (r .«out_r») s
+      go false = carried-state-nil (r .«in_r») (r .«out_r») s
 
   pub resampled-append : (s : ResamplerState) (xs ys : List Frame) → resampled r s (xs ++ ys) ≡ resampled r s xs ++ resampled r (stateAfter r s xs) ys
   unfolding resampled stateAfter
@@ -168,7 +168,7 @@ module _ (r : LinearResampler) where
       go : (b : Bool) → cond b (xs ++ ys) (carriedOutputs (r .«in_r») (r .«out_r») s (xs ++ ys))
           ≡ cond b xs (carriedOutputs (r .«in_r») (r .«out_r») s xs) ++ cond b ys (carriedOutputs (r .«in_r») (r .«out_r») (cond b s (carriedState (r .«in_r») (r .«out_r») s xs)) ys)
       go true = refl
-      go false = output-append (r .«in_r») (r .«out_r») s xs ys
+      go false = carried-append (r .«in_r») (r .«out_r») s xs ys
 
   pub state-append : (s : ResamplerState) (xs ys : List Frame) → stateAfter r s (xs ++ ys) ≡ stateAfter r (stateAfter r s xs) ys
   unfolding stateAfter
@@ -176,4 +176,4 @@ module _ (r : LinearResampler) where
     where
       go : (b : Bool) → cond b s (carriedState (r .«in_r») (r .«out_r») s (xs ++ ys)) ≡ cond b (cond b s (carriedState (r .«in_r») (r .«out_r») s xs)) (carriedState (r .«in_r») (r .«out_r») (cond b s (carriedState (r .«in_r») (r .«out_r») s xs)) ys)
       go true = refl
-      go false = next-append (r .«in_r») (r .«out_r») s xs ys
+      go false = carried-state-append (r .«in_r») (r .«out_r») s xs ys

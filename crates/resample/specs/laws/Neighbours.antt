@@ -14,12 +14,10 @@ use mir.Facts.{sfits-lit}
 use Rattle.pcm.specs.Samples.{Samples}
 use Rattle.pcm.specs.Frames.{Frame, FrameOf, FramesOf}
 use Rattle.rates.specs.Counting.{tabulate, count}
-use Rattle.rates.specs.laws.Counting.{length-tabulate, getD-tabulate, all-tabulate, count-before, counted, factor}
+use Rattle.rates.specs.laws.Counting.{length-tabulate, getD-tabulate, all-tabulate, count-before, step-positive, factor-positive}
 use Rattle.resample.specs.Value.{value, frac}
 use Rattle.resample.specs.laws.Value.{interpolated-between, interpolated-fits, samples-apart, frac-below, value-near-line}
-use Rattle.resample.specs.Resample.{blend, outputAt, gaps, wholeOutputs, among, firstAt, outputsFrom, carriedOutputs, resampled}
-use Rattle.rates.specs.Rates.{openedState}
-use Rattle.resample.specs.laws.Delivered.{output-is-delivered}
+use Rattle.resample.specs.Resample.{blend, outputAt, gaps, among, firstAt, outputsFrom, carriedOutputs, resampled}
 use Rattle.rates.specs.declared.LinearResampler.{LinearResampler}
 use Rattle.rates.specs.declared.ResamplerState.{ResamplerState}
 use Rattle.resample.specs.Neighbours.{sampleIn, DeliveredSample, FramesAfter}
@@ -59,10 +57,10 @@ blend-frame ch o a b r h p q = record {
 -- ---- an carriedOutputs from p on in steps of in_r
 module _ (ch i o p : ℕ) (X : List Frame) (a : FramesAfter ch X) (j : ℕ) (h : j < count i p (gaps X * o)) where
   before : p + j * i < gaps X * o
-  before = count-before i (counted i p (gaps X * o) j h) p (gaps X * o) j h
+  before = count-before i (step-positive i p (gaps X * o) j h) p (gaps X * o) j h
 
   some-rate : 0 < o
-  some-rate = factor (gaps X) o (p + j * i) before
+  some-rate = factor-positive (gaps X) o (p + j * i) before
 
   gap : (p + j * i) / o < gaps X
   gap = div-lt-iff-lt-mul some-rate .1 before
@@ -97,7 +95,7 @@ module _ (ch i o : ℕ) where
   unfolding outputsFrom
   outputs-frames p X a = all-tabulate (FrameOf ch) (count i p (gaps X * o)) (λ j. outputAt o X (p + j * i)) (output-frame ch i o p X a)
 
-  outputs-sample : (p : ℕ) (X : List Frame) → FramesAfter ch X → (j c : ℕ) → j < length (outputsFrom i o p X) → c < ch → DeliveredSample o (p + j * i) X c (sampleIn (outputsFrom i o p X) j c)
+  pub outputs-sample : (p : ℕ) (X : List Frame) → FramesAfter ch X → (j c : ℕ) → j < length (outputsFrom i o p X) → c < ch → DeliveredSample o (p + j * i) X c (sampleIn (outputsFrom i o p X) j c)
   unfolding outputsFrom
   outputs-sample p X a j c h k =
       let l : j < count i p (gaps X * o) = rw length-tabulate at h in
@@ -118,20 +116,9 @@ among-frames ch s xs h a = go (s .primed)
 
 module _ (ch i o : ℕ) (s : ResamplerState) (xs : List Frame) (h : Samples (s .last)) (a : FramesOf ch xs) where
   -- of frames the stage makes frames
-  pub output-frames : FramesOf ch (carriedOutputs i o s xs)
+  pub carried-frames : FramesOf ch (carriedOutputs i o s xs)
   unfolding carriedOutputs
-  output-frames = outputs-frames ch i o (firstAt s) (among s xs) (among-frames ch s xs h a)
-
-  pub delivered-sample : (j c : ℕ) → j < length (carriedOutputs i o s xs) → c < ch → DeliveredSample o (firstAt s + j * i) (among s xs) c (sampleIn (carriedOutputs i o s xs) j c)
-  unfolding carriedOutputs
-  delivered-sample j c l k = outputs-sample ch i o (firstAt s) (among s xs) (among-frames ch s xs h a) j c l k
-
--- of the whole stream X: carriedOutputs k lies at k * in_r
-pub whole-sample : (ch i o : ℕ) (X : List Frame) → FramesOf ch X → (k c : ℕ) → k < length (wholeOutputs i o X) → c < ch → DeliveredSample o (k * i) X c (sampleIn (wholeOutputs i o X) k c)
-unfolding among firstAt
-whole-sample ch i o X a k c h l =
-    let e : 0 + k * i ≡ k * i = omega arith in
-    rw (output-is-delivered i o X, e) at (delivered-sample ch i o openedState X (sfits-lit tt, (sfits-lit tt, tt)) a k c (rw (output-is-delivered i o X) h) l)
+  carried-frames = outputs-frames ch i o (firstAt s) (among s xs) (among-frames ch s xs h a)
 
 pub resampled-frames : (ch : ℕ) (r : LinearResampler) (s : ResamplerState) (xs : List Frame) → Samples (s .last) → FramesOf ch xs → FramesOf ch (resampled r s xs)
 unfolding resampled
@@ -139,4 +126,4 @@ resampled-frames ch r s xs h a = go (eqb (r .«in_rate») (r .«out_rate»))
   where
     go : (b : Bool) → FramesOf ch (cond b xs (carriedOutputs (r .«in_r») (r .«out_r») s xs))
     go true = a
-    go false = output-frames ch (r .«in_r») (r .«out_r») s xs h a
+    go false = carried-frames ch (r .«in_r») (r .«out_r») s xs h a

@@ -1,8 +1,7 @@
 -- `stage::frames_out` meets its contract. Assumes nothing.
 use borrow.Author.Needs.{needs}
-use mathlib.Core.Path.{_≡_}
 use Rattle.rates.specs.Rates.{Rates}
-use Rattle.stage.specs.Rooms.{framesOut, Bounded}
+use Rattle.stage.specs.Rooms.{framesOut}
 use Rattle.stage.proofs.Products.{product-fits}
 use Rattle.stage.proofs.frames_out.Statement.{statement}
 use Rattle.stage.proofs.frames_out.Tie as tie

@@ -1,8 +1,7 @@
 -- `stage::frames_wanted` meets its contract. Assumes nothing.
 use borrow.Author.Needs.{needs}
-use mathlib.Core.Path.{_≡_}
 use Rattle.rates.specs.Rates.{Rates}
-use Rattle.stage.specs.Rooms.{framesWanted, Bounded}
+use Rattle.stage.specs.Rooms.{framesWanted}
 use Rattle.stage.proofs.Products.{product-fits}
 use Rattle.stage.proofs.frames_wanted.Statement.{statement}
 use Rattle.stage.proofs.frames_wanted.Tie as tie

@@ -1,6 +1,6 @@
 -- `stage::held_samples` meets its contract: an element of an array of samples is a sample. Assumes nothing.
 use borrow.Author.Needs.{needs}
-use mathlib.Core.Path.{_≡_, refl, sym, ap, _∙_}
+use mathlib.Core.Path.{_≡_, refl, ap}
 use mathlib.Core.List.{List, [], _∷_}
 use native.Mathlib.Omega.{arith}
 use lib.IntN.{ℤ, pos}
@@ -9,7 +9,6 @@ use mir.Syntax.{w16}
 use mir.Val.{SFits, toZ, ofZ}
 use mir.Facts.{toZ-ofZ}
 use Rattle.pcm.specs.Samples.{Samples}
-use Rattle.rates.specs.declared.ResamplerState.{ResamplerState}
 use Rattle.stage.proofs.held_samples.Statement.{statement}
 use Rattle.stage.proofs.held_samples.Tie as tie
 

@@ -1,5 +1,4 @@
 -- `stage::part_suits` meets its contract. Assumes nothing.
-use borrow.Author.Needs.{needs}
 use borrow.Author.Tests.{lt-ltb}
 use Prim.Native.Nat.{_<_}
 use native.Mathlib.Omega.{arith}

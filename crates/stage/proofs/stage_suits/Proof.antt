@@ -1,6 +1,5 @@
 -- `stage::stage_suits` meets its contract. Assumes nothing.
 use borrow.Author.Needs.{needs}
-use mathlib.Core.Path.{_≡_}
 use Rattle.stage.specs.Rooms.{stageSuits}
 use Rattle.stage.proofs.stage_suits.Statement.{statement}
 use Rattle.stage.proofs.stage_suits.Tie as tie

@@ -2,8 +2,8 @@
 use mathlib.Core.Path.{_≡_}
 use mathlib.Core.Bool.{true, _&&_}
 use mathlib.Core.List.{List, map}
-use Prim.Native.Nat.{ℕ, _*_, _≤_, _<_}
-use native.Mathlib.Nat.{le-refl, le-trans, mul-le-mul-right}
+use Prim.Native.Nat.{ℕ, _≤_, _<_}
+use native.Mathlib.Nat.{le-refl, le-trans}
 use native.Mathlib.Omega.{arith}
 use borrow.Author.Tests.{leb-true, ltb-true, eqb-true}
 use lib.Dec.{eqb, leb, ltb}
@@ -23,7 +23,7 @@ use Rattle.biquad.specs.Recurrence.{biquadTick}
 use Rattle.rates.specs.declared.LinearResampler.{LinearResampler}
 use Rattle.rates.specs.Rates.{ratesAllowed, Rates}
 use Rattle.rates.specs.laws.Rates.{rates-within}
-use Rattle.resample.specs.laws.Opening.{room-holds}
+use Rattle.rates.specs.Theorems.{room-holds}
 use Rattle.resample.specs.laws.Delivered.{resampled-count}
 use Rattle.resample.specs.laws.Neighbours.{resampled-frames}
 use Rattle.stage.specs.declared.StageKind.{StageKind}
@@ -32,7 +32,7 @@ use Rattle.stage.specs.declared.SoundMemory.{SoundMemory}
 use Rattle.stage.specs.declared.Stage.{Stage}
 use Rattle.stage.specs.Stages.{outOf, stageOut, formatAfter}
 use Rattle.pcm.specs.laws.Tests.{both}
-use Rattle.stage.specs.Rooms.{ratesSuit, stageSuits, framesOut, framesWanted, roomWanted, Resamples, Bounded, Held}
+use Rattle.stage.specs.Rooms.{ratesSuit, stageSuits, framesOut, framesWanted, Resamples, Bounded, Held}
 
 pub rates-suit : (r : LinearResampler) → ratesSuit r ≡ true → Rates r
 unfolding ratesSuit
@@ -93,11 +93,6 @@ module _ (f : PcmFormat) (m : SoundMemory) where
   wanted-holds (kind.Resample r) n h = room-holds r (resamples f r m h .rates) n (m .resampler .primed) (m .resampler .phase)
   wanted-holds (kind.DcBlock b) n h = le-refl n
   wanted-holds (kind.Biquad b) n h = le-refl n
-
-  -- the room wanted holds what is delivered
-  pub room-holds-bytes : (k : StageKind) (n : ℕ) → stageSuits f k m ≡ true → framesOut k m n * (formatAfter f k .channels * 2) ≤ roomWanted f k n
-  unfolding roomWanted
-  room-holds-bytes k n h = mul-le-mul-right (formatAfter f k .channels * 2) (wanted-holds k n h)
 
   -- frames of frames
   frames-of : (k : StageKind) (xs : List Frame) → stageSuits f k m ≡ true → Held k m → FramesOf (f .channels) xs → FramesOf (formatAfter f k .channels) (outOf k m xs)

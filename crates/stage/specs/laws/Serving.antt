@@ -27,7 +27,7 @@ use Rattle.rates.specs.declared.LinearResampler.{LinearResampler}
 use Rattle.rates.specs.declared.ResamplerState.{ResamplerState}
 use Rattle.resample.specs.declared.Resampled.{Resampled}
 use Rattle.resample.specs.Resample.{resampled, stateAfter}
-use Rattle.resample.specs.laws.Opening.{room-holds-resampled}
+use Rattle.resample.specs.Theorems.{room-holds-resampled}
 use Rattle.resample.specs.laws.Neighbours.{resampled-frames}
 use Rattle.resample.specs.Stage.{Ready, Processed}
 use Rattle.stage.specs.declared.StageKind.{StageKind}

@@ -1,5 +1,5 @@
 -- Laws of the definitions in Resamplers. Assumes nothing.
-use mathlib.Core.Path.{_≡_, refl, sym, ap, _∙_, subst}
+use mathlib.Core.Path.{_≡_, refl, sym, subst}
 use mathlib.Core.Bool.{true}
 use mathlib.Core.List.{List, [], _∷_, map}
 use Prim.Native.Nat.{ℕ, zero, suc, _+_, _-_, _*_, _≤_, _<_}
@@ -12,13 +12,12 @@ use Rattle.pcm.specs.declared.PcmFormat.{PcmFormat}
 use Rattle.pcm.specs.Samples.{All}
 use Rattle.pcm.specs.Frames.{Frame, FrameOf, FramesOf}
 use Rattle.rates.specs.declared.LinearResampler.{LinearResampler}
-use Rattle.rates.specs.Counting.{ceilDiv}
-use Rattle.rates.specs.laws.Counting.{ceil-reach, ceil-least}
-use Rattle.resample.specs.Resample.{wholeOutputs, wholeSoundState, resampledWhole, stateWhole}
+use Rattle.rates.specs.laws.Counting.{ceil-least}
+use Rattle.resample.specs.Resample.{wholeOutputs, resampledWhole, stateWhole}
 use Rattle.rates.specs.Rates.{openedState, Rates, reduced}
-use Rattle.resample.specs.laws.Delivered.{output-is-delivered, delivered-length, delivered-exactly}
-use Rattle.resample.specs.laws.Neighbours.{output-frames, whole-sample}
-use Rattle.resample.specs.laws.Opening.{delivered-by-rates}
+use Rattle.resample.specs.laws.Delivered.{carried-is-whole}
+use Rattle.resample.specs.laws.Neighbours.{carried-frames}
+use Rattle.resample.specs.Theorems.{delivered-exactly, delivered-by-rates, sound-phase, whole-sample}
 use Rattle.stage.specs.declared.StageKind.{StageKind}
 use Rattle.stage.specs.declared.StageKind.the-variants as kind
 use Rattle.stage.specs.Stages.{stageAsOpened, memoryAsOpened, formatAfter}
@@ -43,7 +42,7 @@ none-of [] h = refl
 none-of (x ∷ l) h = absurd (not-suc-le-zero h)
 
 delivered-frames : (ch i o : ℕ) (X : List Frame) → FramesOf ch X → FramesOf ch (wholeOutputs i o X)
-delivered-frames ch i o X a = subst (FramesOf ch) (output-is-delivered i o X) (output-frames ch i o openedState X (sfits-lit tt, (sfits-lit tt, tt)) a)
+delivered-frames ch i o X a = subst (FramesOf ch) (carried-is-whole i o X) (carried-frames ch i o openedState X (sfits-lit tt, (sfits-lit tt, tt)) a)
 
 module _ (r : LinearResampler) (rates : Rates r) (unequal : r .«in_rate» ≡ r .«out_rate» → ⊥) where
   whole-is-delivered : (X : List Frame) → resampledWhole r X ≡ wholeOutputs (r .«in_r») (r .«out_r») X
@@ -51,14 +50,11 @@ module _ (r : LinearResampler) (rates : Rates r) (unequal : r .«in_rate» ≡ r
   whole-is-delivered X = rw (ne-eqb (r .«in_rate») (r .«out_rate») unequal)
 
   phase-stands : (X : List Frame) → 0 < length X → stateWhole r X .phase + (length X - 1) * r .«out_r» ≡ length (wholeOutputs (r .«in_r») (r .«out_r») X) * r .«in_r»
-  unfolding stateWhole wholeSoundState
+  unfolding stateWhole
   phase-stands [] h = absurd (not-suc-le-zero h)
   phase-stands (x ∷ xs) h =
       let e : suc (length xs) - 1 ≡ length xs = omega arith in
-      let n : length (wholeOutputs (r .«in_r») (r .«out_r») (x ∷ xs)) ≡ ceilDiv (length xs * r .«out_r») (r .«in_r») =
-      delivered-length (r .«in_r») (r .«out_r») (x ∷ xs) ∙ ap (λ (m : ℕ). ceilDiv (m * r .«out_r») (r .«in_r»)) e in
-      let b : length xs * r .«out_r» ≤ length (wholeOutputs (r .«in_r») (r .«out_r») (x ∷ xs)) * r .«in_r» = rw n (ceil-reach (r .«in_r») (rates .in-r .0) (length xs * r .«out_r»)) in
-      rw (ne-eqb (r .«in_rate») (r .«out_rate») unequal, e) (omega arith)
+      rw (ne-eqb (r .«in_rate») (r .«out_rate») unequal, e) (sound-phase (r .«in_r») (r .«out_r») (rates .in-r .0) x xs)
 
   delivered-parts : (ch : ℕ) (X : List Frame) → r ≡ reduced (r .«in_rate») (r .«out_rate») → FramesOf ch X → Resampled r X (wholeOutputs (r .«in_r») (r .«out_r») X)
   delivered-parts ch X e a = record {

@@ -11,10 +11,10 @@ use Rattle.rates.proofs.LinearResampler.output_frames.Statement.{statem
 use Rattle.rates.proofs.LinearResampler.output_frames.Tie as tie
 
 -- the count of unequal rates is that from the first position
-counted : (c : tie.After-first-position) → let a = c .before .before .before .before .args in
+count-from-position : (c : tie.After-first-position) → let a = c .before .before .before .before .args in
     count (a .self .«in_r») (c .first-position .result) (a .frames * a .self .«out_r») ≡ resampledCount (a .self) (a .primed) (a .phase) (a .frames)
 unfolding resampledCount
-counted c =
+count-from-position c =
     let e = c .before .before in
     let a = e .before .before .args in
     simp (ne-eqb _ _ (e .if1 .left))
@@ -28,8 +28,8 @@ returns c = simp (eq-eqb _ _ (c .if1 .taken))
 returns-2 : tie.Need-returns-2
 returns-2 c =
     let a = c .before .before .before .before .before .args in
-    sym (count-none-past (a .self .«in_r») (c .before .first-position .result) (a .frames * a .self .«out_r») (c .if2 .taken)) ∙ counted (c .before)
+    sym (count-none-past (a .self .«in_r») (c .before .first-position .result) (a .frames * a .self .«out_r») (c .if2 .taken)) ∙ count-from-position (c .before)
 
 pub output-frames-spec : {M : Type 1} → statement M
 output-frames-spec = tie.close (tie.spec returns (λ c. search needs) (λ c κs. search needs) returns-2 (λ c. search needs) (λ c. search needs) (λ c. search needs) (λ c. search needs)
-    (λ c. counted (c .before .before .before)))
+    (λ c. count-from-position (c .before .before .before)))
