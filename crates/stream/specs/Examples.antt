@@ -1,61 +1,91 @@
--- Document 01's example (f) by calls on a chain, with a refused block and resets among them. Assumes nothing.
-use mathlib.Core.Path.{_≡_, refl}
+-- Document 01's example (f) by calls on the chain of its recipe's bytes, with a refused block and resets among them. Assumes nothing.
+use mathlib.Core.Path.{_≡_, refl, ap, _∙_}
 use mathlib.Core.List.{List, [], _∷_, map}
 use Prim.Native.Nat.{ℕ}
 use lib.IntN.{pos}
 use Rattle.pcm.specs.declared.PcmFormat.{PcmFormat}
+use Rattle.pcm.specs.declared.Verdict.the-variants.{Accepted}
 use Rattle.pcm.specs.Formats.{rateAllowed, channelsAllowed, formatAllowed}
 use Rattle.pcm.specs.Samples.{sampleOf, lowOf, highOf}
-use Rattle.pcm.specs.Frames.{framesOf, bytesOf, written}
+use Rattle.pcm.specs.Frames.{Frame, framesOf, bytesOf, written}
 use Rattle.rates.specs.Divisor.{gcd, largest}
+use Rattle.rates.specs.Rates.{carriedCount, resampledCount, ratesAllowed, reduced, roomFrames}
 use Rattle.resample.specs.Value.{interpolated}
 use Rattle.resample.specs.Resample.{blend, outputAt, wholeOutputs, among, firstAt, outputsFrom, carriedOutputs, carriedState, resampled, stateAfter, resampledWhole}
-use Rattle.rates.specs.Rates.{carriedCount, resampledCount, ratesAllowed, reduced, roomFrames}
-use Rattle.stage.specs.declared.Stage.{Stage}
-use Rattle.stage.specs.declared.StageKind.{StageKind}
 use Rattle.stage.specs.declared.StageKind.the-variants as kind
 use Rattle.stage.specs.Stages.{stageOut, stageNext, stageAsOpened}
 use Rattle.stage.specs.Rooms.{ratesSuit, stageSuits, framesOut, framesWanted, roomWanted}
+use Rattle.recipe.specs.Records.{recordVerdict, recordOf, recordBytes}
+use Rattle.opening.specs.Opening.{stageVerdict}
 use Rattle.pipeline.specs.declared.Pipeline.{Pipeline}
-use Rattle.pipeline.specs.Reset.{resetCall, formatLeaving}
-use Rattle.block.specs.BlockCall.{suited, legal, roomsVerdict, blockVerdict, passed, accepted, blockCall}
-use Rattle.stream.specs.Calls.{Call, block, reset, runOf}
-use Rattle.stream.specs.Opened.{FreshlyOpened, chainAsOpened, opened-with}
-use Rattle.stream.specs.PlainChain.{plainStage}
+use Rattle.pipeline.specs.declared.Opened.{Opened}
+use Rattle.pipeline.specs.Opening.{openStages, chainOf, openCall}
+use Rattle.pipeline.specs.Reset.{formatLeaving}
+use Rattle.block.specs.declared.Answer.the-variants.{NothingYet}
+use Rattle.block.specs.BlockCall.{suited, legal, roomsVerdict, blockVerdict, passed, accepted, Result, blockCall}
+use Rattle.stream.specs.Calls.{Call, block, reset, callOutput, runOf}
+use Rattle.stream.specs.Opened.{kindsIn}
+use Rattle.stream.specs.PlainChain.{plainStage, plainOut}
 use Rattle.stream.specs.PlainRoom.{plainRoom, plainVerdict}
 use Rattle.stream.specs.Stream.{streamOf}
+use Rattle.stream.specs.WholeStream.{WholeStream}
+use Rattle.stream.specs.Theorems.{whole-stream}
+use Rattle.stream.specs.laws.Calls.{all-lent}
 
 abbrev mono8000 : PcmFormat
 mono8000 = record { rate = 8000; channels = 1 }
 
-abbrev kinds : List StageKind
-kinds = kind.Resample (reduced 8000 16000) ∷ []
-
-abbrev spare : List Stage
-spare = map stageAsOpened (kind.MonoToStereo ∷ kind.MonoToStereo ∷ kind.MonoToStereo ∷ kind.MonoToStereo ∷ kind.MonoToStereo ∷ kind.MonoToStereo ∷ kind.MonoToStereo ∷ [])
+-- (f) 8,000 to 16,000 Hz
+abbrev recipe : List ℕ
+recipe = 0x0A ∷ 0x00 ∷ 0x04 ∷ 0x00 ∷ 0x40 ∷ 0x1F ∷ 0x00 ∷ 0x00 ∷ 0x80 ∷ 0x3E ∷ 0x00 ∷ 0x00 ∷ []
 
 abbrev doubling : Pipeline
-doubling = chainAsOpened mono8000 kinds spare 0 0
+doubling = chainOf mono8000 (stageAsOpened (kind.Resample (reduced 8000 16000)) ∷ [])
 
--- a chain that the theorem speaks of
-doubling-opened : FreshlyOpened doubling
-unfolding rateAllowed channelsAllowed formatAllowed suited stageSuits ratesSuit ratesAllowed reduced gcd largest
-doubling-opened = opened-with mono8000 kinds spare 0 0 refl refl refl (refl, tt)
+opened-f : openCall mono8000 recipe ≡ record { verdict = Accepted; chain = doubling }
+unfolding openCall openStages recordVerdict stageVerdict recordOf recordBytes rateAllowed channelsAllowed formatAllowed ratesAllowed
+opened-f = refl
 
+chain-f : openCall mono8000 recipe .chain ≡ doubling
+chain-f = ap (λ (x : Opened). x .chain) opened-f
+
+-- ---- cut after frame 0 the first call is 'nothing yet'; the second delivers 0, 50, 100, 75
 abbrev lentHalf : List ℕ
 lentHalf = 7 ∷ 7 ∷ 7 ∷ 7 ∷ 7 ∷ 7 ∷ 7 ∷ 7 ∷ 7 ∷ 7 ∷ []
 
+abbrev played : Pipeline → List ℕ → Result
+played c bytes = blockCall c mono8000 0 bytes lentHalf lentHalf
+
+first-call-f : played (openCall mono8000 recipe .chain) (0 ∷ 0 ∷ []) .answer ≡ NothingYet
+unfolding blockCall blockVerdict legal suited stageSuits ratesSuit ratesAllowed rateAllowed channelsAllowed formatAllowed roomsVerdict roomWanted framesWanted framesOut resampledCount carriedCount roomFrames accepted bytesOf framesOf sampleOf lowOf highOf formatLeaving stageOut stageNext resampled stateAfter carriedOutputs outputsFrom carriedState among firstAt outputAt blend interpolated reduced gcd largest chainOf
+first-call-f = ap (λ (c : Pipeline). played c (0 ∷ 0 ∷ []) .answer) chain-f
+
+second-call-f : callOutput (played (played (openCall mono8000 recipe .chain) (0 ∷ 0 ∷ []) .chain) (100 ∷ 0 ∷ 50 ∷ 0 ∷ [])) ≡ 0 ∷ 0 ∷ 50 ∷ 0 ∷ 100 ∷ 0 ∷ 75 ∷ 0 ∷ []
+unfolding blockCall blockVerdict legal suited stageSuits ratesSuit ratesAllowed rateAllowed channelsAllowed formatAllowed roomsVerdict roomWanted framesWanted framesOut resampledCount carriedCount roomFrames accepted passed written bytesOf framesOf sampleOf lowOf highOf formatLeaving stageOut stageNext resampled stateAfter carriedOutputs outputsFrom carriedState among firstAt outputAt blend interpolated reduced gcd largest chainOf
+second-call-f = ap (λ (c : Pipeline). callOutput (played (played c (0 ∷ 0 ∷ []) .chain) (100 ∷ 0 ∷ 50 ∷ 0 ∷ []))) chain-f
+
+-- ---- `whole-stream` at work
 abbrev call : List ℕ → Call
 call bytes = block mono8000 0 bytes lentHalf lentHalf
 
--- 8,000 to 16,000 Hz, frames 0, 100, 50: 0, 50, 100, 75; cut after frame 0; half a frame is refused, as are five frames for want of room
+-- frames 0, 100, 50, cut after frame 0; half a frame is refused, as are five frames for want of room; what came before the reset is gone
 abbrev calls : List Call
 calls = call (9 ∷ 0 ∷ 9 ∷ 0 ∷ []) ∷ reset ∷ call (0 ∷ 0 ∷ []) ∷ call (1 ∷ []) ∷ call (1 ∷ 0 ∷ 2 ∷ 0 ∷ 3 ∷ 0 ∷ 4 ∷ 0 ∷ 5 ∷ 0 ∷ []) ∷ call (100 ∷ 0 ∷ 50 ∷ 0 ∷ []) ∷ []
 
-stream-f : streamOf doubling calls ≡ map (λ (x : ℕ). pos x ∷ []) (0 ∷ 100 ∷ 50 ∷ [])
-unfolding plainVerdict plainRoom plainStage resampledWhole wholeOutputs outputAt blend interpolated reduced gcd largest framesWanted roomWanted roomFrames framesOf sampleOf
-stream-f = refl
+abbrev frames : List Frame
+frames = map (λ (x : ℕ). pos x ∷ []) (0 ∷ 100 ∷ 50 ∷ [])
 
-output-f : runOf doubling calls .joined ≡ 0 ∷ 0 ∷ 50 ∷ 0 ∷ 100 ∷ 0 ∷ 75 ∷ 0 ∷ []
-unfolding blockCall blockVerdict legal suited stageSuits ratesSuit ratesAllowed rateAllowed channelsAllowed formatAllowed roomsVerdict roomWanted framesWanted framesOut resampledCount carriedCount roomFrames accepted passed written bytesOf framesOf sampleOf lowOf highOf formatLeaving stageOut stageNext resampled stateAfter carriedOutputs outputsFrom carriedState among firstAt outputAt blend interpolated reduced gcd largest resetCall
-output-f = refl
+stream-f : streamOf (openCall mono8000 recipe .chain) calls ≡ frames
+unfolding plainVerdict plainRoom plainStage resampledWhole wholeOutputs outputAt blend interpolated reduced gcd largest framesWanted roomWanted roomFrames framesOf sampleOf rateAllowed channelsAllowed formatAllowed chainOf
+stream-f = ap (λ (c : Pipeline). streamOf c calls) chain-f
+
+whole-f : WholeStream (openCall mono8000 recipe .chain) frames (runOf (openCall mono8000 recipe .chain) calls)
+whole-f = rw stream-f at (whole-stream mono8000 recipe (ap (λ (x : Opened). x .verdict) opened-f) calls (all-lent calls refl))
+
+-- 0, 50, 100, 75
+plain-f : bytesOf (plainOut (kindsIn (openCall mono8000 recipe .chain)) frames) ≡ 0 ∷ 0 ∷ 50 ∷ 0 ∷ 100 ∷ 0 ∷ 75 ∷ 0 ∷ []
+unfolding plainOut plainStage resampledWhole wholeOutputs outputAt blend interpolated reduced gcd largest bytesOf lowOf highOf chainOf
+plain-f = ap (λ (c : Pipeline). bytesOf (plainOut (kindsIn c) frames)) chain-f
+
+output-f : runOf (openCall mono8000 recipe .chain) calls .joined ≡ 0 ∷ 0 ∷ 50 ∷ 0 ∷ 100 ∷ 0 ∷ 75 ∷ 0 ∷ []
+output-f = whole-f .output ∙ plain-f

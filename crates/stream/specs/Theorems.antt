@@ -52,6 +52,10 @@ opened-chain f recipe h = go (formatAllowed f) refl h
     go true e h = stages-chain f e (openStages 8 f recipe) (stages-opened 8 f recipe) h
     go false e h = not-accepted (cc)
 
+-- a chain that opening accepted is one that the block call takes
+pub opened-is-legal : (f : PcmFormat) (recipe : List ℕ) → openCall f recipe .verdict ≡ Accepted → legal (openCall f recipe .chain) ≡ true
+opened-is-legal f recipe h = opened-chain f recipe h .lawful
+
 -- whatever the format and the recipe that opening accepts, the block and reset calls, and the blocks and halves that they bring
 pub whole-stream : (f : PcmFormat) (recipe : List ℕ) → openCall f recipe .verdict ≡ Accepted → (calls : List Call) → All Lent calls
     → WholeStream (openCall f recipe .chain) (streamOf (openCall f recipe .chain) calls) (runOf (openCall f recipe .chain) calls)
@@ -74,10 +78,11 @@ module _ (f : PcmFormat) (recipe : List ℕ) (h : openCall f recipe .verdict ≡
   few : c .count ≤ 8
   few = omega (arith, whole .count, legal-parts o (opened-chain f recipe h .lawful) .few)
 
-  lawful : legal c ≡ true
+  -- and stays one, whatever the calls
+  pub still-legal : legal c ≡ true
   unfolding legal
-  lawful =
-      let p = both (leb (o .count) 8) _ (opened-chain f recipe h .lawful) in
+  still-legal =
+      let p = both (leb (o .count) 8) _ (opened-is-legal f recipe h) in
       let q = both (formatAllowed (o .format)) _ (p .1) in
       rw (le-leb (c .count) 8 few, whole .format, q .0, whole .state) (suited-still (o .format) (kindsIn o) (streamOf o calls) (suit o (opened-chain f recipe h)))
 
@@ -96,7 +101,7 @@ module _ (f : PcmFormat) (recipe : List ℕ) (h : openCall f recipe .verdict ≡
       → numberOf (blockVerdict c format size short) ≡ 3 → ⊥
   scratch-still-suffices format size figure short e room three =
       scratch-suffices o c format size figure short (sym (whole .format)) (sym kinds-kept)
-      lawful e room three
+      still-legal e room three
 
 -- `blocks` grows with each accepted call; reset clears sound state, not counters
 pub blocks-counted : (f : PcmFormat) (recipe : List ℕ) → openCall f recipe .verdict ≡ Accepted → (calls : List Call) → All Lent calls

@@ -1,7 +1,9 @@
 pub mod AfterCalls
 pub mod Afterwards
+pub mod Calls
 pub mod Counters
 pub mod OneCall
+pub mod Opened
 pub mod Opening
 pub mod PlainChain
 pub mod PlainRoom

@@ -27,7 +27,8 @@ use Rattle.pipeline.specs.Opening.{Stages, opened, refused, asked, front, nextK
 use Rattle.opening.specs.Opening.{settingsAllowed, stageVerdict, stageKindOf, recordSuits}
 use Rattle.pipeline.specs.laws.Opening.{stage-fits}
 use Rattle.block.specs.BlockCall.{suited}
-use Rattle.stream.specs.Opened.{RatesReduced, FreshlyOpened, chainAsOpened, opened-with}
+use Rattle.stream.specs.Opened.{RatesReduced, FreshlyOpened}
+use Rattle.stream.specs.laws.Opened.{chainAsOpened, opened-with}
 
 pub not-accepted : {X : Type 0} → _≡_ {A = ℕ} 0 1 → X
 not-accepted e = absurd (let z : ⊥ = omega arith in z)
