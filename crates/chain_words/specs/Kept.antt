@@ -12,5 +12,5 @@ keptWords w i [] = w
 keptWords w i (s ∷ l) = keptWords (sets w (8 + 18 * i + 7) (memoryWords (s .memory))) (suc i) l
 
 -- the memories of the stages in use, and both counters
-unfoldable pub walked : List ℕ → List Stage → ℕ → ℕ → List ℕ
-walked w l blocks empty = sets (keptWords w 0 l) 3 (counterWords blocks empty)
+unfoldable pub withSound : List ℕ → List Stage → ℕ → ℕ → List ℕ
+withSound w l blocks empty = sets (keptWords w 0 l) 3 (counterWords blocks empty)

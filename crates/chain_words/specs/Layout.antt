@@ -3,7 +3,7 @@
 --   word 0 count, 1 rate, 2 channels, 3 and 4 blocks, 5 and 6 empty blocks (low word first), 7 zero; stage i begins at word 8 + 18 i
 use mathlib.Core.Bool.{Bool, true, cond, _&&_}
 use mathlib.Core.List.{List, [], _∷_, _++_}
-use Prim.Native.Nat.{ℕ, zero, suc, _+_, _*_, _/_, _%_}
+use Prim.Native.Nat.{ℕ, zero, suc, _+_, _*_, _/_, _%_, _^_}
 use lib.Dec.{leb}
 use lib.ListN.{length, drop, replicate}
 use Rattle.pcm.specs.declared.PcmFormat.{PcmFormat}
@@ -16,10 +16,10 @@ use Rattle.stage_words.specs.Layout.{stageWords, word, stageOf}
 -- ---- a chain to words
 -- both counters, low word first
 abbrev pub counterWords : ℕ → ℕ → List ℕ
-counterWords blocks empty = blocks % 4294967296 ∷ blocks / 4294967296 ∷ empty % 4294967296 ∷ empty / 4294967296 ∷ []
+counterWords blocks empty = blocks % 2 ^ 32 ∷ blocks / 2 ^ 32 ∷ empty % 2 ^ 32 ∷ empty / 2 ^ 32 ∷ []
 
 unfoldable pub headWords : Pipeline → List ℕ
-headWords c = c .count % 4294967296 ∷ c .format .rate ∷ c .format .channels ∷ (counterWords (c .blocks) (c .«empty_blocks») ++ 0 ∷ [])
+headWords c = c .count % 2 ^ 32 ∷ c .format .rate ∷ c .format .channels ∷ (counterWords (c .blocks) (c .«empty_blocks») ++ 0 ∷ [])
 
 unfoldable pub stagesWords : List Stage → List ℕ
 stagesWords [] = []
@@ -40,7 +40,7 @@ abbrev pub formatOf : List ℕ → PcmFormat
 formatOf w = record { rate = word w 1; channels = word w 2 % 65536 }
 
 abbrev pub counterAt : List ℕ → ℕ → ℕ
-counterAt w i = word w i + 4294967296 * word w (suc i)
+counterAt w i = word w i + 2 ^ 32 * word w (suc i)
 
 -- n stages from stage i on
 abbrev pub stagesFrom : List ℕ → ℕ → ℕ → List Stage

@@ -1,7 +1,7 @@
 // A chain as plain words in the caller's memory: eight words for the chain, then eighteen for each of its eight stages.
 ghost use mathlib.Core.Path.{_≡_};
 ghost use mathlib.Core.List.{[], _∷_};
-ghost use Prim.Native.Nat.{_+_, _*_, _/_, _%_, _≤_, _<_};
+ghost use Prim.Native.Nat.{_+_, _*_, _/_, _%_, _≤_, _<_, _^_};
 ghost use lib.ListN.{length, take};
 ghost use lib.Seq.{sets};
 ghost use Rattle.pcm.specs.Samples.{All};
@@ -9,8 +9,8 @@ ghost use Rattle.pcm.specs.Frames.{written};
 ghost use Rattle.recipe.specs.Records.{known};
 ghost use Rattle.pipeline.specs.WritingBack.{stagesOf};
 ghost use Rattle.stage_words.specs.Layout.{memoryWords, stageWords, heldAt, heldWords, word};
-ghost use Rattle.stage_words.specs.Storable.{TwoSamples, HeldFilter, Held, HeldMemory, HeldBy, SmallKind, Small};
-ghost use Rattle.chain_words.specs.Kept.{keptWords, walked};
+ghost use Rattle.stage_words.specs.Storable.{TwoSamples, HeldFilter, HeldStage, HeldMemory, HeldBy, SmallKind, Small};
+ghost use Rattle.chain_words.specs.Kept.{keptWords, withSound};
 ghost use Rattle.chain_words.specs.Layout.{counterWords, headWords, wordsOf, stageAt, formatOf, counterAt, chainAt, kindsKnown, stands, noChain, chainOfWords};
 use pcm::PcmFormat;
 use pipeline::Pipeline;
@@ -41,7 +41,7 @@ pub fn kind_at(w: &[u32], i: usize) -> StageKind
 
 pub fn memory_at(w: &[u32], i: usize) -> SoundMemory
     requires { ⌜ (i < 8) × (152 ≤ length (now w)) ⌝ }
-    ensures { λ r. ⌜ (r ≡ stageAt (now (w .entry)) i .memory) × (r .resampler .phase < 4294967296) ⌝ }
+    ensures { λ r. ⌜ (r ≡ stageAt (now (w .entry)) i .memory) × (r .resampler .phase < 2 ^ 32) ⌝ }
 {
     let place = 8 + 18 * i;
     stage_words::memory_of(&w[place..])
@@ -49,7 +49,7 @@ pub fn memory_at(w: &[u32], i: usize) -> SoundMemory
 
 pub fn put_stage_at(w: &mut [u32], i: usize, s: Stage)
     requires { ⌜ (i < 8) × (152 ≤ length (now w)) ⌝ }
-    ensures { λ _. ⌜ (now (w .exit) ≡ sets (now (w .entry)) (8 + 18 * i) (stageWords s)) × Held s ⌝ }
+    ensures { λ _. ⌜ (now (w .exit) ≡ sets (now (w .entry)) (8 + 18 * i) (stageWords s)) × HeldStage s ⌝ }
 {
     let place = 8 + 18 * i;
     stage_words::put_stage(&mut w[place..], s);
@@ -214,7 +214,7 @@ pub fn chain_of(w: &[u32]) -> Pipeline
 
 fn put_counter(w: &mut [u32], i: usize, n: u64)
     requires { ⌜ i + 1 < length (now w) ⌝ }
-    ensures { λ _. ⌜ now (w .exit) ≡ sets (now (w .entry)) i (n % 4294967296 ∷ n / 4294967296 ∷ []) ⌝ }
+    ensures { λ _. ⌜ now (w .exit) ≡ sets (now (w .entry)) i (n % 2 ^ 32 ∷ n / 2 ^ 32 ∷ []) ⌝ }
 {
     w[i] = (n % 4294967296) as u32;
     w[i + 1] = (n / 4294967296) as u32;
@@ -244,7 +244,7 @@ fn put_head(w: &mut [u32], chain: Pipeline)
 // The chain at the front of the words; words past it stay.
 pub fn put_chain(w: &mut [u32], chain: Pipeline)
     requires { ⌜ 152 ≤ length (now w) ⌝ }
-    ensures { λ _. ⌜ (now (w .exit) ≡ written (wordsOf chain) (now (w .entry))) × All Held (chain .stages) ⌝ }
+    ensures { λ _. ⌜ (now (w .exit) ≡ written (wordsOf chain) (now (w .entry))) × All HeldStage (chain .stages) ⌝ }
 {
     let stages = chain.stages;
     put_head(w, chain);
@@ -259,7 +259,7 @@ pub fn put_chain(w: &mut [u32], chain: Pipeline)
 // The memories of the stages in use and both counters, all that a block or a reset alters; every other word stays.
 pub fn put_sound(w: &mut [u32], chain: Pipeline)
     requires { ⌜ (chain .count ≤ 8) × (152 ≤ length (now w)) ⌝ }
-    ensures { λ _. ⌜ (now (w .exit) ≡ walked (now (w .entry)) (stagesOf chain) (chain .blocks) (chain .«empty_blocks»)) × All HeldMemory (stagesOf chain) ⌝ }
+    ensures { λ _. ⌜ (now (w .exit) ≡ withSound (now (w .entry)) (stagesOf chain) (chain .blocks) (chain .«empty_blocks»)) × All HeldMemory (stagesOf chain) ⌝ }
 {
     let stages = chain.stages;
     let count = chain.count;

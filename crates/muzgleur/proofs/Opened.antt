@@ -26,7 +26,7 @@ use Rattle.opening.specs.Opening.{settingsAllowed, stageVerdict, stageKindOf}
 use Rattle.pipeline.specs.Opening.{Stages, opened, refused, asked, front, nextKind, afterNext, openStages, unusedStage, chainOf, openedOf, openCall}
 use Rattle.pipeline.specs.laws.Opening.{stage-fits}
 use Rattle.pipeline.specs.laws.RoundTrip.{opened-few}
-use Rattle.stage_words.specs.Storable.{Held, SmallKind, Small}
+use Rattle.stage_words.specs.Storable.{HeldStage, SmallKind, Small}
 use Rattle.chain_words.specs.Layout.{wordsOf, chainOfWords}
 use Rattle.chain_words.specs.Storable.{Storable}
 use Rattle.chain_words.specs.Theorems.{written-stands}
@@ -75,7 +75,7 @@ small-unused (suc n) = (record { kind = tt; phase = omega arith }, small-unused 
 
 -- ---- the chain
 module _ (f : PcmFormat) (channels : f .channels < 65536) where
-  chain-storable : (ss : List Stage) → length ss ≤ 8 → All Small ss → All Held (chainOf f ss .stages) → Storable (chainOf f ss)
+  chain-storable : (ss : List Stage) → length ss ≤ 8 → All Small ss → All HeldStage (chainOf f ss .stages) → Storable (chainOf f ss)
   unfolding chainOf
   chain-storable ss few small held = record {
     places = length-append ss (replicate (8 - length ss) unusedStage) ∙ omega (arith, length-replicate (8 - length ss) unusedStage);
@@ -88,17 +88,17 @@ module _ (f : PcmFormat) (channels : f .channels < 65536) where
   abbrev answerOf : Bool → Stages → Opened
   answerOf b x = openedOf f (asked (ask b error.InvalidFormat Accepted) x)
 
-  opened-storable : (bytes : List ℕ) → openCall f bytes .verdict ≡ Accepted → All Held (openCall f bytes .chain .stages) → Storable (openCall f bytes .chain)
+  opened-storable : (bytes : List ℕ) → openCall f bytes .verdict ≡ Accepted → All HeldStage (openCall f bytes .chain .stages) → Storable (openCall f bytes .chain)
   unfolding openCall
   opened-storable bytes = by-format (formatAllowed f) (openStages 8 f bytes) refl
     where
-      by-format : (b : Bool) (x : Stages) → openStages 8 f bytes ≡ x → answerOf b x .verdict ≡ Accepted → All Held (answerOf b x .chain .stages) → Storable (answerOf b x .chain)
+      by-format : (b : Bool) (x : Stages) → openStages 8 f bytes ≡ x → answerOf b x .verdict ≡ Accepted → All HeldStage (answerOf b x .chain .stages) → Storable (answerOf b x .chain)
       by-format true (opened ss) q e held = chain-storable ss (opened-few 8 f bytes ss q) (small-opened 8 f bytes ss q) held
       by-format true (refused r) q e held = chain-storable [] (omega arith) tt held
       by-format false x q e held = chain-storable [] (omega arith) tt held
 
   -- after an opening the words stand for the chain opened
-  pub open-stands : (bytes w : List ℕ) → openCall f bytes .verdict ≡ Accepted → All Held (openCall f bytes .chain .stages) → chainOfWords (written (wordsOf (openCall f bytes .chain)) w) ≡ openCall f bytes .chain
+  pub open-stands : (bytes w : List ℕ) → openCall f bytes .verdict ≡ Accepted → All HeldStage (openCall f bytes .chain .stages) → chainOfWords (written (wordsOf (openCall f bytes .chain)) w) ≡ openCall f bytes .chain
   open-stands bytes w e held = written-stands (openCall f bytes .chain) (opened-storable bytes e held) w
 
 -- a refusal's number is not 0

@@ -17,7 +17,7 @@ use Rattle.block.specs.declared.Told.{Told}
 use Rattle.block.specs.declared.Scratch.{Scratch}
 use Rattle.block.specs.BlockCall.{Result}
 use Rattle.block.specs.Told.{answerTold, scratchValued}
-use Rattle.chain_words.specs.Kept.{walked}
+use Rattle.chain_words.specs.Kept.{withSound}
 use Rattle.chain_words.specs.Layout.{wordsOf, stands, chainOfWords}
 use Rattle.muzgleur.specs.declared.CounterResult.{CounterResult}
 use Rattle.muzgleur.specs.declared.Format.{Format}
@@ -51,7 +51,7 @@ blockOutcome r = record { result = answerTold (r .answer); chain = r .chain; a =
 -- ---- the other calls
 -- the memories of the stages in use and both counters to their words; every other word stays
 abbrev pub soundWords : List ℕ → Pipeline → List ℕ
-soundWords w c = walked w (stagesOf c) (c .blocks) (c .«empty_blocks»)
+soundWords w c = withSound w (stagesOf c) (c .blocks) (c .«empty_blocks»)
 
 -- words that stand for no chain are 1, and stay
 abbrev pub resetOutcome : List ℕ → Outcome
@@ -60,8 +60,8 @@ resetOutcome w = cond (stands w) (record { number = 0; words = soundWords w (res
 abbrev pub counterResult : Bool → Pipeline → CounterResult
 counterResult known c = record { number = cond known 0 1; blocks = c .blocks; «empty_blocks» = c .«empty_blocks» }
 
-abbrev pub formatOf : PcmFormat → Format
-formatOf f = record { rate = f .rate; channels = f .channels }
+abbrev pub formatResult : PcmFormat → Format
+formatResult f = record { rate = f .rate; channels = f .channels }
 
 abbrev pub scratchResult : Scratch → ScratchResult
 scratchResult s = record { number = scratchValued s .number; value = scratchValued s .value }

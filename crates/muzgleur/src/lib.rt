@@ -6,7 +6,7 @@ ghost use Rattle.pipeline.specs.WritingBack.{writeCall, writeTold};
 ghost use Rattle.block.specs.BlockCall.{blockCall, scratchBytes};
 ghost use Rattle.chain_words.specs.Layout.{stands, chainOfWords};
 ghost use Rattle.word_block.specs.Words.{SettingsStay};
-ghost use Rattle.muzgleur.specs.Results.{openOutcome, blockOutcome, resetOutcome, counterResult, formatOf, scratchResult};
+ghost use Rattle.muzgleur.specs.Results.{openOutcome, blockOutcome, resetOutcome, counterResult, formatResult, scratchResult};
 use block::Told;
 use pcm::PcmFormat;
 use pcm::Verdict;
@@ -105,7 +105,7 @@ pub extern "C" fn muzgleur_counters(chain: &[u32]) -> CounterResult
 // The format that leaves the last stage; zeros where the words stand for no chain.
 #[no_mangle]
 pub extern "C" fn muzgleur_output_format(chain: &[u32]) -> Format
-    ensures { λ r. ⌜ r ≡ formatOf (outputFormat (chainOfWords (now (chain .entry)))) ⌝ }
+    ensures { λ r. ⌜ r ≡ formatResult (outputFormat (chainOfWords (now (chain .entry)))) ⌝ }
 {
     let format = chain_words::chain_of(chain).output_format();
     Format {

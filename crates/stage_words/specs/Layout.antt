@@ -3,7 +3,7 @@
 --   word 0 kind (the recipe's number), 1 to 6 settings, 7 to 14 the filter's memory, 15 to 17 the resampler's
 use mathlib.Core.Bool.{not, cond}
 use mathlib.Core.List.{List, [], _∷_, _++_}
-use Prim.Native.Nat.{ℕ, _+_, _*_, _/_, _%_}
+use Prim.Native.Nat.{ℕ, _+_, _*_, _/_, _%_, _^_}
 use lib.Dec.{eqb}
 use lib.IntN.{ℤ, pos}
 use lib.Ieee.{Float, nan, binary32, ofBits}
@@ -30,7 +30,7 @@ unfoldable pub settingWords : StageKind → List ℕ
 settingWords (kind.Gain g) = 1 ∷ ofZ w32 (g .q15) ∷ 0 ∷ 0 ∷ 0 ∷ 0 ∷ 0 ∷ []
 settingWords kind.MonoToStereo = 2 ∷ 0 ∷ 0 ∷ 0 ∷ 0 ∷ 0 ∷ 0 ∷ []
 settingWords kind.StereoToMono = 3 ∷ 0 ∷ 0 ∷ 0 ∷ 0 ∷ 0 ∷ 0 ∷ []
-settingWords (kind.Resample r) = 4 ∷ r .«in_rate» ∷ r .«out_rate» ∷ r .«in_r» % 4294967296 ∷ r .«out_r» % 4294967296 ∷ 0 ∷ 0 ∷ []
+settingWords (kind.Resample r) = 4 ∷ r .«in_rate» ∷ r .«out_rate» ∷ r .«in_r» % 2 ^ 32 ∷ r .«out_r» % 2 ^ 32 ∷ 0 ∷ 0 ∷ []
 settingWords (kind.DcBlock d) = 5 ∷ d .corner ∷ patternOf (d .r) ∷ 0 ∷ 0 ∷ 0 ∷ 0 ∷ []
 settingWords (kind.Biquad b) = 6 ∷ b .rate ∷ b .bits .b0 ∷ b .bits .b1 ∷ b .bits .b2 ∷ b .bits .a1 ∷ b .bits .a2 ∷ []
 
@@ -47,10 +47,10 @@ filterWords m =
 
 -- the newest frame in one word, left in its low half
 abbrev pub frameWord : List ℤ → ℕ
-frameWord l = ofZ w16 (getD l 0 (pos 0)) + 65536 * ofZ w16 (getD l 1 (pos 0))
+frameWord l = ofZ w16 (getD l 0 (pos 0)) + 2 ^ 16 * ofZ w16 (getD l 1 (pos 0))
 
 unfoldable pub stateWords : ResamplerState → List ℕ
-stateWords s = frameWord (s .last) ∷ s .phase % 4294967296 ∷ cond (s .primed) 1 0 ∷ []
+stateWords s = frameWord (s .last) ∷ s .phase % 2 ^ 32 ∷ cond (s .primed) 1 0 ∷ []
 
 unfoldable pub memoryWords : SoundMemory → List ℕ
 memoryWords m = filterWords (m .filter) ++ stateWords (m .resampler)
@@ -85,8 +85,8 @@ floatAt w i = ofBits binary32 (word w i)
 abbrev pub gainOf : List ℕ → Gain
 gainOf w = record { q15 = toZ w32 (word w 1) }
 
-abbrev pub resamplerOf : List ℕ → LinearResampler
-resamplerOf w = record { «in_rate» = word w 1; «out_rate» = word w 2; «in_r» = word w 3; «out_r» = word w 4 }
+abbrev pub resamplerOfWords : List ℕ → LinearResampler
+resamplerOfWords w = record { «in_rate» = word w 1; «out_rate» = word w 2; «in_r» = word w 3; «out_r» = word w 4 }
 
 abbrev pub dcBlockOf : List ℕ → DcBlock
 dcBlockOf w = record { corner = word w 1; r = floatAt w 2 }
@@ -105,7 +105,7 @@ kindOf w number =
     ∷ kind.Gain (gainOf w)
     ∷ kind.MonoToStereo
     ∷ kind.StereoToMono
-    ∷ kind.Resample (resamplerOf w)
+    ∷ kind.Resample (resamplerOfWords w)
     ∷ kind.DcBlock (dcBlockOf w)
     ∷ kind.Biquad (biquadOf w)
     ∷ [])

@@ -1,7 +1,7 @@
--- Which stages words give back: what every stage of machine numbers has (`Held`), and what those have that a call leaves (`Small`). Definitions only.
+-- Which stages words give back: what every stage of machine numbers has (`HeldStage`), and what those have that a call leaves (`Small`). Definitions only.
 use mathlib.Core.Path.{_≡_}
 use mathlib.Core.List.{List}
-use Prim.Native.Nat.{_<_}
+use Prim.Native.Nat.{_<_, _^_}
 use lib.Dec.{T}
 use lib.IntN.{ℤ, pos}
 use lib.Ieee.{Float, nan, binary32, fits}
@@ -42,7 +42,7 @@ HeldKind (kind.Resample r) = Unit {0}
 HeldKind (kind.DcBlock d) = T (fits binary32 (d .r))
 HeldKind (kind.Biquad b) = Unit {0}
 
-pub record Held (s : Stage) : Type 0 where
+pub record HeldStage (s : Stage) : Type 0 where
   pub kind : HeldKind (s .kind)
   pub filter : HeldFilter (s .memory .filter)
   pub last : TwoSamples (s .memory .resampler .last)
@@ -67,10 +67,10 @@ abbrev pub SmallKind : StageKind → Type 0
 SmallKind (kind.Gain g) = Unit {0}
 SmallKind kind.MonoToStereo = Unit {0}
 SmallKind kind.StereoToMono = Unit {0}
-SmallKind (kind.Resample r) = (r .«in_r» < 4294967296) × (r .«out_r» < 4294967296)
+SmallKind (kind.Resample r) = (r .«in_r» < 2 ^ 32) × (r .«out_r» < 2 ^ 32)
 SmallKind (kind.DcBlock d) = Unit {0}
 SmallKind (kind.Biquad b) = b .coefficients ≡ floats (b .bits)
 
 pub record Small (s : Stage) : Type 0 where
   pub kind : SmallKind (s .kind)
-  pub phase : s .memory .resampler .phase < 4294967296
+  pub phase : s .memory .resampler .phase < 2 ^ 32

@@ -11,7 +11,7 @@ ghost use mir.Syntax.{w16, w32};
 ghost use mir.Val.{SFits, toZ, ofZ};
 ghost use Rattle.floats.specs.Floats.{patternOf};
 ghost use Rattle.stage_words.specs.Layout.{settingWords, floatWord, filterWords, stateWords, memoryWords, stageWords, word, floatAt, biquadOf, kindOf, filterOf, stateOf, memoryOf, stageOf};
-ghost use Rattle.stage_words.specs.Storable.{TwoFloats, TwoSamples, HeldFilter, HeldKind, Held};
+ghost use Rattle.stage_words.specs.Storable.{TwoFloats, TwoSamples, HeldFilter, HeldKind, HeldStage};
 use biquad::Biquad;
 use biquad::CoefficientBits;
 use dc_block::DcBlock;
@@ -246,7 +246,7 @@ pub fn put_memory(w: &mut [u32], m: SoundMemory)
 
 pub fn put_stage(w: &mut [u32], s: Stage)
     requires { ⌜ 18 ≤ length (now w) ⌝ }
-    ensures { λ _. ⌜ (now (w .exit) ≡ sets (now (w .entry)) 0 (stageWords s)) × Held s ⌝ }
+    ensures { λ _. ⌜ (now (w .exit) ≡ sets (now (w .entry)) 0 (stageWords s)) × HeldStage s ⌝ }
 {
     let kind = s.kind;
     let memory = s.memory;

@@ -9,7 +9,7 @@ use lib.Seq.{sets, length-sets, length-take-le, take-all}
 use Rattle.pcm.specs.Samples.{All}
 use Rattle.stage.specs.declared.Stage.{Stage}
 use Rattle.stage_words.specs.Layout.{stageWords}
-use Rattle.stage_words.specs.Storable.{Held}
+use Rattle.stage_words.specs.Storable.{HeldStage}
 use Rattle.stage_words.specs.laws.Runs.{sets-append}
 use Rattle.chain_words.specs.Layout.{headWords, stagesWords, wordsOf}
 use Rattle.stage.specs.laws.Places.{noStage}
@@ -21,7 +21,7 @@ use Rattle.chain_words.proofs.put_chain.Statement.{statement}
 use Rattle.chain_words.proofs.put_chain.Tie as tie
 
 abbrev Inv-loop : tie.InvT-loop
-Inv-loop w₀ stages i₀ w i = (i ≤ 8) × (length stages ≡ 8) × (w ≡ sets w₀ 8 (stagesWords (take i stages))) × All Held (take i stages)
+Inv-loop w₀ stages i₀ w i = (i ≤ 8) × (length stages ≡ 8) × (w ≡ sets w₀ 8 (stagesWords (take i stages))) × All HeldStage (take i stages)
 
 abbrev μ-loop : tie.MeasureT-loop
 μ-loop w₀ stages i₀ w i = 8 - i
@@ -56,7 +56,7 @@ loop-again c =
       omega arith,
       v .1,
       p .0 ∙ ap (λ (x : List ℕ). sets x (8 + 18 * i) s) (v .2) ∙ ap (λ (n : ℕ). sets (sets w₀ 8 b) n s) e ∙ sym (sets-append b s w₀ 8) ∙ ap (sets w₀ 8) (sym (stages-next st i noStage h)),
-      all-next Held st i noStage h (v .3) (p .1),
+      all-next HeldStage st i noStage h (v .3) (p .1),
     )
 
 same-length : tie.Need-same-length Inv-loop μ-loop
@@ -78,7 +78,7 @@ returns c =
       v .2 ∙ ap (λ (x : List Stage). sets w₀ 8 (stagesWords x)) t ∙ ap (λ (x : List ℕ). sets x 8 (stagesWords st)) (l .before .before .before .put-head .ensures)
           ∙ sym (sets-append (headWords (a .chain)) (stagesWords st) w 0 ∙ ap (λ (n : ℕ). sets (sets w 0 (headWords (a .chain))) n (stagesWords st)) e)
           ∙ whole-run (headWords (a .chain) ++ stagesWords st) w n,
-      subst (λ (x : List Stage). All Held x) t (v .3),
+      subst (λ (x : List Stage). All HeldStage x) t (v .3),
     )
 
 pub put-chain-spec : {M : Type 1} → statement M

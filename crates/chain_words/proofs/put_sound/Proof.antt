@@ -1,12 +1,12 @@
 -- `chain_words::put_sound` meets its contract. Assumes nothing.
 use borrow.Author.Needs.{needs}
 use mathlib.Core.Path.{_∙_}
-use Rattle.chain_words.specs.Kept.{walked}
+use Rattle.chain_words.specs.Kept.{withSound}
 use Rattle.chain_words.proofs.put_sound.Statement.{statement}
 use Rattle.chain_words.proofs.put_sound.Tie as tie
 
 returns : tie.Need-returns
-unfolding walked
+unfolding withSound
 returns c =
     let b = c .before .before in
     let a = b .before .before .before .before in

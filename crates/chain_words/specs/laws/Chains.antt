@@ -16,7 +16,7 @@ use Rattle.pcm.specs.laws.Tests.{both}
 use Rattle.recipe.specs.Records.{known}
 use Rattle.pipeline.specs.declared.Pipeline.{Pipeline}
 use Rattle.stage_words.specs.Layout.{settingWords, memoryWords, stageWords, word, stageOf}
-use Rattle.stage_words.specs.Storable.{Held, Small}
+use Rattle.stage_words.specs.Storable.{HeldStage, Small}
 use Rattle.stage_words.specs.laws.ReadBack.{stage-back}
 use Rattle.stage_words.specs.laws.Reading.{length-stage}
 use Rattle.chain_words.specs.Layout.{headWords, stagesWords, wordsOf, placeOf, stagesFrom, chainAt, kindsKnown, stands, noChain, chainOfWords}
@@ -45,7 +45,7 @@ module _ (w rest : List ℕ) where
       ap (λ (k : ℕ). drop k w) (sym n) ∙ sym (drop-drop 18 (8 + 18 * i) w) ∙ ap (drop 18) (e ∙ append-assoc (stageWords s) (stagesWords l) rest)
       ∙ drop-at (stageWords s) (stagesWords l ++ rest) 18 (length-stage s)
 
-  stages-back : (l : List Stage) (i : ℕ) → placeOf w i ≡ stagesWords l ++ rest → All Held l → All Small l → stagesFrom w i (length l) ≡ l
+  stages-back : (l : List Stage) (i : ℕ) → placeOf w i ≡ stagesWords l ++ rest → All HeldStage l → All Small l → stagesFrom w i (length l) ≡ l
   unfolding stagesWords
   stages-back [] i e h k = refl
   stages-back (s ∷ l) i e h k =

@@ -17,7 +17,7 @@ use Rattle.stage_words.specs.Layout.{memoryWords, word}
 use Rattle.stage_words.specs.laws.Storable.{Kept}
 use Rattle.stage_words.specs.laws.Reading.{length-memory, stage-same}
 use Rattle.stage_words.specs.laws.Runs.{before-run, after-run, from-run}
-use Rattle.chain_words.specs.Kept.{keptWords, walked}
+use Rattle.chain_words.specs.Kept.{keptWords, withSound}
 use Rattle.chain_words.specs.Layout.{counterWords, placeOf, stageAt, stagesFrom, counterAt, chainAt, kindsKnown, stands, chainOfWords}
 use Rattle.chain_words.specs.laws.Places.{memory-written, other-place}
 
@@ -124,16 +124,16 @@ same-kinds a b i zero h = refl
 same-kinds a b i (suc n) h = ap₂ (λ (x y : Bool). x && y) (ap known (h i)) (same-kinds a b (suc i) n h)
 
 -- ---- memories and counters
-length-walked : (w : List ℕ) (l : List Stage) (blocks empty : ℕ) → length (walked w l blocks empty) ≡ length w
-unfolding walked
+length-walked : (w : List ℕ) (l : List Stage) (blocks empty : ℕ) → length (withSound w l blocks empty) ≡ length w
+unfolding withSound
 length-walked w l blocks empty = length-sets (keptWords w 0 l) 3 (counterWords blocks empty) ∙ length-kept l w 0
 
-kind-walked : (w : List ℕ) (l : List Stage) (blocks empty j : ℕ) → word (walked w l blocks empty) (8 + 18 * j) ≡ word w (8 + 18 * j)
-unfolding walked
+kind-walked : (w : List ℕ) (l : List Stage) (blocks empty j : ℕ) → word (withSound w l blocks empty) (8 + 18 * j) ≡ word w (8 + 18 * j)
+unfolding withSound
 kind-walked w l blocks empty j = after-run (counterWords blocks empty) (keptWords w 0 l) 3 (8 + 18 * j) 0 (omega arith) ∙ kept-kind l w 0 j
 
-counters-walked : (w : List ℕ) (l : List Stage) (blocks empty : ℕ) → 152 ≤ length w → (counterAt (walked w l blocks empty) 3 ≡ blocks) × (counterAt (walked w l blocks empty) 5 ≡ empty)
-unfolding walked
+counters-walked : (w : List ℕ) (l : List Stage) (blocks empty : ℕ) → 152 ≤ length w → (counterAt (withSound w l blocks empty) 3 ≡ blocks) × (counterAt (withSound w l blocks empty) 5 ≡ empty)
+unfolding withSound
 counters-walked w l blocks empty long = counters-written (keptWords w 0 l) blocks empty (omega (arith, length-kept l w 0))
 
 module _ (w : List ℕ) (l : List Stage) (blocks empty : ℕ) (few : length l ≤ 8) (long : 152 ≤ length w) where
@@ -143,12 +143,12 @@ module _ (w : List ℕ) (l : List Stage) (blocks empty : ℕ) (few : length l �
   long-kept : 8 ≤ length kept
   long-kept = omega (arith, length-kept l w 0)
 
-  first-words : (j : ℕ) → j < 3 → word (walked w l blocks empty) j ≡ word w j
-  unfolding walked
+  first-words : (j : ℕ) → j < 3 → word (withSound w l blocks empty) j ≡ word w j
+  unfolding withSound
   first-words j h = counters-apart kept blocks empty long-kept j h ∙ kept-before l w 0 j (omega arith)
 
-  eight-stages : kindsOf (stagesFrom w 0 (length l)) ≡ kindsOf l → All KeptStage l → stagesFrom (walked w l blocks empty) 0 8 ≡ l ++ drop (length l) (stagesFrom w 0 8)
-  unfolding walked
+  eight-stages : kindsOf (stagesFrom w 0 (length l)) ≡ kindsOf l → All KeptStage l → stagesFrom (withSound w l blocks empty) 0 8 ≡ l ++ drop (length l) (stagesFrom w 0 8)
+  unfolding withSound
   eight-stages e h =
       let m : ℕ = 8 - length l in
       let n : 8 ≡ length l + (8 - length l) = omega arith in
@@ -162,9 +162,9 @@ module _ (w : List ℕ) (l : List Stage) (blocks empty : ℕ) (few : length l �
       ∙ stages-split kept (length l) (8 - length l) 0
       ∙ ap₂ (λ (x y : List Stage). x ++ y) a (b ∙ sym d ∙ ap (λ (q : ℕ). drop (length l) (stagesFrom w 0 q)) (sym n))
 
-  still-stands : stands w ≡ true → stands (walked w l blocks empty) ≡ true
+  still-stands : stands w ≡ true → stands (withSound w l blocks empty) ≡ true
   unfolding stands
-  still-stands h = rw (length-walked w l blocks empty, first-words 0 (omega arith), same-kinds (walked w l blocks empty) w 0 (word w 0) (kind-walked w l blocks empty)) h
+  still-stands h = rw (length-walked w l blocks empty, first-words 0 (omega arith), same-kinds (withSound w l blocks empty) w 0 (word w 0) (kind-walked w l blocks empty)) h
 
   taken : take (length l) (stagesFrom w 0 8) ≡ stagesFrom w 0 (length l)
   taken =
@@ -175,7 +175,7 @@ module _ (w : List ℕ) (l : List Stage) (blocks empty : ℕ) (few : length l �
 
   -- where the stages have the kinds that stood there, the words stand for the chain with these stages and counters
   pub walk-stands : stands w ≡ true → kindsOf (take (length l) (chainOfWords w .stages)) ≡ kindsOf l → All KeptStage l
-      → chainOfWords (walked w l blocks empty) ≡ record { stages = l ++ drop (length l) (chainOfWords w .stages); count = chainOfWords w .count; format = chainOfWords w .format; blocks = blocks; «empty_blocks» = empty }
+      → chainOfWords (withSound w l blocks empty) ≡ record { stages = l ++ drop (length l) (chainOfWords w .stages); count = chainOfWords w .count; format = chainOfWords w .format; blocks = blocks; «empty_blocks» = empty }
   unfolding chainOfWords chainAt
   walk-stands s e h =
       let c = counters-walked w l blocks empty long in

@@ -10,7 +10,7 @@ use Rattle.stage.specs.declared.StageKind.{StageKind}
 use Rattle.stage.specs.declared.SoundMemory.{SoundMemory}
 use Rattle.stage.specs.declared.Stage.{Stage}
 use Rattle.stage_words.specs.Layout.{memoryWords, stageWords, word, stageOf}
-use Rattle.stage_words.specs.Storable.{HeldFilter, TwoSamples, Held, Small}
+use Rattle.stage_words.specs.Storable.{HeldFilter, TwoSamples, HeldStage, Small}
 use Rattle.stage_words.specs.laws.ReadBack.{memory-back, stage-back}
 use Rattle.stage_words.specs.laws.Reading.{length-memory, length-stage, kind-same, memory-same, stage-same}
 use Rattle.stage_words.specs.laws.Runs.{before-run, after-run, from-run}
@@ -18,7 +18,7 @@ use Rattle.chain_words.specs.Layout.{placeOf, stageAt}
 
 module _ (w : List ℕ) (i : ℕ) where
   -- a stage that was written stands there
-  pub stage-written : (s : Stage) → Held s → Small s → 8 + 18 * i + 18 ≤ length w → stageAt (sets w (8 + 18 * i) (stageWords s)) i ≡ s
+  pub stage-written : (s : Stage) → HeldStage s → Small s → 8 + 18 * i + 18 ≤ length w → stageAt (sets w (8 + 18 * i) (stageWords s)) i ≡ s
   stage-written s h k l = ap stageOf (from-run (stageWords s) w (8 + 18 * i) (rw (length-stage s) l)) ∙ stage-back s h k (drop (8 + 18 * i + length (stageWords s)) w)
 
   -- and a memory, beside the kind that stood there

@@ -9,7 +9,7 @@ use Rattle.pcm.specs.Samples.{All}
 use Rattle.pcm.specs.Frames.{written}
 use Rattle.pcm.specs.declared.Verdict.the-variants.{Accepted}
 use Rattle.pipeline.specs.declared.Opened.{Opened}
-use Rattle.stage_words.specs.Storable.{Held}
+use Rattle.stage_words.specs.Storable.{HeldStage}
 use Rattle.chain_words.specs.Layout.{wordsOf, chainOfWords}
 use Rattle.muzgleur.proofs.Opened.{open-stands, number-some}
 use Rattle.muzgleur.proofs.muzgleur_open.Statement.{statement}
@@ -30,7 +30,7 @@ returns-2 c =
     let q = o .«open» .ensures in (
       rw (le-leb 152 (length w) (n .if1 .left), ← q, t .enum-told .given .1, p .put-chain .ensures .0),
       λ z. ap chainOfWords (p .put-chain .ensures .0 ∙ ap (λ (x : Opened). written (wordsOf (x .chain)) w) q)
-          ∙ open-stands f (a .fits .channels .fits) (a .args .recipe .now) w (subst (λ (x : Opened). x .verdict ≡ Accepted) q (t .enum-told .given .1)) (subst (λ (x : Opened). All Held (x .chain .stages)) q (p .put-chain .ensures .1)),
+          ∙ open-stands f (a .fits .channels .fits) (a .args .recipe .now) w (subst (λ (x : Opened). x .verdict ≡ Accepted) q (t .enum-told .given .1)) (subst (λ (x : Opened). All HeldStage (x .chain .stages)) q (p .put-chain .ensures .1)),
     )
 
 returns-3 : tie.Need-returns-3

@@ -20,7 +20,7 @@ use Rattle.stage.specs.declared.StageKind.the-variants as kind
 use Rattle.stage.specs.declared.SoundMemory.{SoundMemory}
 use Rattle.stage.specs.declared.Stage.{Stage}
 use Rattle.stage_words.specs.Layout.{settingWords, floatWord, filterWords, frameWord, stateWords, memoryWords, stageWords, kindOf, filterOf, stateOf, memoryOf, stageOf}
-use Rattle.stage_words.specs.Storable.{TwoFloats, TwoSamples, HeldFilter, HeldKind, Held, SmallKind, Small}
+use Rattle.stage_words.specs.Storable.{TwoFloats, TwoSamples, HeldFilter, HeldKind, HeldStage, SmallKind, Small}
 
 -- ---- numbers
 pub float-back : (x : Float) → T (fits binary32 x) → ofBits binary32 (patternOf x) ≡ x
@@ -85,6 +85,6 @@ module _ (m : SoundMemory) (f : HeldFilter (m .filter)) (l : TwoSamples (m .resa
   kind-back (kind.DcBlock d) h s rest = rw (memory-back 5 (d .corner) (patternOf (d .r)) 0 0 0 0 rest, float-back (d .r) h)
   kind-back (kind.Biquad b) h s rest = rw (memory-back 6 (b .rate) (b .bits .b0) (b .bits .b1) (b .bits .b2) (b .bits .a1) (b .bits .a2) rest, ← s)
 
-pub stage-back : (s : Stage) → Held s → Small s → (rest : List ℕ) → stageOf (stageWords s ++ rest) ≡ s
+pub stage-back : (s : Stage) → HeldStage s → Small s → (rest : List ℕ) → stageOf (stageWords s ++ rest) ≡ s
 unfolding stageWords
 stage-back s h k rest = kind-back (s .memory) (h .filter) (h .last) (k .phase) (s .kind) (h .kind) (k .kind) rest
