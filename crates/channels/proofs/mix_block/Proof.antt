@@ -46,12 +46,7 @@ returns c =
 pub mix-block-spec : {M : Type 1} → statement M
 mix-block-spec = tie.close (tie.spec Inv-loop μ-loop
     (λ c. let s = c .before .before .before in (omega arith, refl, writing-start _ _ _ (sym (length-mixed _ _ (s .pre .1) (s .pre .0)))))
-    (λ c κs. omega arith)
-    (λ c κs. omega arith)
-    (λ c κs. tt)
-    (λ c κs. omega arith)
-    (λ c. omega arith)
-    (λ c. omega arith)
+    (λ c κs. omega arith) (λ c κs. omega arith) (λ c κs. tt) (λ c κs. omega arith) (λ c. omega arith) (λ c. omega arith)
     loop-again
     (λ c. c .before .loop .inv .2 .len)
     returns)

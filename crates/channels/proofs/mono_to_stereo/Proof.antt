@@ -41,13 +41,7 @@ returns c =
 pub mono-to-stereo-spec : {M : Type 1} → statement M
 mono-to-stereo-spec = tie.close (tie.spec Inv-loop μ-loop
     (λ c. (omega arith, refl, refl, writing-start _ _ _ (sym (length-stereo _ (c .before .before .pre .0)))))
-    (λ c κs. omega arith)
-    (λ c κs. omega arith)
-    (λ c. omega arith)
-    (λ c κs. omega arith)
-    (λ c. omega arith)
-    (λ c. omega arith)
-    (λ c. omega arith)
+    (λ c κs. omega arith) (λ c κs. omega arith) (λ c. omega arith) (λ c κs. omega arith) (λ c. omega arith) (λ c. omega arith) (λ c. omega arith)
     loop-again
     (λ c. c .before .loop .inv .3 .len)
     returns)

@@ -41,13 +41,7 @@ returns c =
 pub stereo-to-mono-spec : {M : Type 1} → statement M
 stereo-to-mono-spec = tie.close (tie.spec Inv-loop μ-loop
     (λ c. (omega arith, refl, refl, writing-start _ _ _ (sym (length-mono _ (c .before .before .pre .0)))))
-    (λ c κs. omega arith)
-    (λ c. omega arith)
-    (λ c κs. omega arith)
-    (λ c κs. tt)
-    (λ c κs. omega arith)
-    (λ c. omega arith)
-    (λ c. omega arith)
+    (λ c κs. omega arith) (λ c. omega arith) (λ c κs. omega arith) (λ c κs. tt) (λ c κs. omega arith) (λ c. omega arith) (λ c. omega arith)
     (λ c. omega arith)
     loop-again
     (λ c. c .before .loop .inv .3 .len)

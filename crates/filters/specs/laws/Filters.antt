@@ -15,7 +15,7 @@ use Rattle.pcm.specs.laws.Samples.{all-by-index, encode-append}
 use Rattle.pcm.specs.Frames.{Frame, FramesOf, framesOf, bytesOf, written, flat}
 use Rattle.pcm.specs.laws.Frames.{length-frames, length-frame, length-bytes, frames-nil, frames-mono, frames-stereo}
 use Rattle.pcm.specs.laws.Writing.{Writing, writing-start, writing-put, writing-as, writing-end, next-pair, next-four}
-use Rattle.filters.specs.Filters.{Taps, atRest, first, others, memoryOfTaps, tapsOf, frameNext, frameOut, filtered, filterNext, memoryNext, FilteredBlock}
+use Rattle.filters.specs.Filters.{Taps, atRest, first, others, memoryOfTaps, tapsOf, frameNext, frameOut, filtered, filterNext, memoryNext, FilterBlock, FilteredBlock}
 
 -- ---- taps and memories
 pub taps-of-memory : (ts : List Taps) → tapsOf (memoryOfTaps ts) ≡ ts
@@ -47,24 +47,10 @@ module _ (m : FilterMemory) (two : TwoChannels m) where
 
 -- ---- laws of a stream
 module _ (tick : Taps → ℤ → Taps) where
-  -- nothing from nothing
-  pub filtered-nil : (ts : List Taps) → filtered tick ts [] ≡ []
-  filtered-nil ts = refl
-
-  pub filter-next-nil : (ts : List Taps) → filterNext tick ts [] ≡ ts
-  filter-next-nil ts = refl
-
-  pub memory-next-nil : (m : FilterMemory) → memoryNext tick m [] ≡ m
-  memory-next-nil m = refl
-
   -- a stream in two parts gives what the whole gives
   pub filtered-append : (ts : List Taps) (xs ys : List Frame) → filtered tick ts (xs ++ ys) ≡ filtered tick ts xs ++ filtered tick (filterNext tick ts xs) ys
   filtered-append ts [] ys = refl
   filtered-append ts (x ∷ xs) ys = ap (λ (r : List Frame). frameOut tick ts x ∷ r) (filtered-append (frameNext tick ts x) xs ys)
-
-  pub filter-next-append : (ts : List Taps) (xs ys : List Frame) → filterNext tick ts (xs ++ ys) ≡ filterNext tick (filterNext tick ts xs) ys
-  filter-next-append ts [] ys = refl
-  filter-next-append ts (x ∷ xs) ys = filter-next-append (frameNext tick ts x) xs ys
 
   pub memory-next-append : (m : FilterMemory) (xs ys : List Frame) → memoryNext tick m (xs ++ ys) ≡ memoryNext tick (memoryNext tick m xs) ys
   memory-next-append m [] ys = refl
@@ -123,6 +109,10 @@ module _ (tick : Taps → ℤ → Taps) where
 bytes-cons : (f : Frame) (fs : List Frame) → bytesOf (f ∷ fs) ≡ encode f ++ bytesOf fs
 unfolding bytesOf
 bytes-cons f fs = encode-append f (flat fs)
+
+-- not one channel, so two
+pub two-channels : {channels : ℕ} {input out : List ℕ} → FilterBlock channels input out → (channels ≡ 1 → ⊥) → channels ≡ 2
+two-channels b h = omega (arith, h, b .at-least-one, b .at-most-two)
 
 -- ---- the loop over a block: i bytes are read and written, and the channels' taps are ts; the filter's output of what is left to
 -- read is left to write
