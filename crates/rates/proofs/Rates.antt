@@ -1,4 +1,4 @@
--- Laws of Rates.
+-- The count by the first output's position, as the code takes it. Assumes nothing.
 use mathlib.Core.Path.{_≡_, refl}
 use mathlib.Core.Bool.{Bool, true, false}
 use Prim.Native.Nat.{ℕ, _*_, _-_, zero, suc}

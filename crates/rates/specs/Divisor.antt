@@ -1,4 +1,4 @@
--- The greatest common divisor of two rates, and the rates divided by it (document 01, resample.rs). Assumes nothing.
+-- The greatest common divisor, by which rates are divided (document 01, resample.rs). Assumes nothing.
 use mathlib.Core.Bool.{cond}
 use Prim.Native.Nat.{ℕ, zero, suc, _%_, _∣_}
 use lib.Dec.{eqb}
@@ -10,9 +10,10 @@ pub record GreatestCommonDivisor (a b g : ℕ) : Type 0 where
   pub greatest : (d : ℕ) → d ∣ a → d ∣ b → d ∣ g
 
 -- the largest of 1, .., n that divides a and b
-unfoldable pub largest : ℕ → ℕ → ℕ → ℕ
-largest zero a b = zero
-largest (suc n) a b = cond (eqb (a % suc n) 0) (cond (eqb (b % suc n) 0) (suc n) (largest n a b)) (largest n a b)
+unfoldable pub largestDivisor : ℕ → ℕ → ℕ → ℕ
+largestDivisor zero a b = zero
+largestDivisor (suc n) a b = cond (eqb (a % suc n) 0) (cond (eqb (b % suc n) 0) (suc n) (largestDivisor n a b)) (largestDivisor n a b)
 
+-- the largest number that divides both, where a is above 0
 unfoldable pub gcd : ℕ → ℕ → ℕ
-gcd a b = largest a a b
+gcd a b = largestDivisor a a b

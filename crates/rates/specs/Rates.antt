@@ -1,4 +1,4 @@
--- A lone resampler: opening it, and the room that it wants (document 01, resample.rs and 'The questions'). Assumes nothing.
+-- A lone resampler, the room that it wants and the frames that it brings (document 01, resample.rs and 'The questions'). Assumes nothing.
 use mathlib.Core.Path.{_≡_}
 use mathlib.Core.Bool.{Bool, cond, _&&_, false}
 use Prim.Native.Nat.{ℕ, _+_, _*_, _/_, _≤_, _<_, _-_}
@@ -37,7 +37,7 @@ unfoldable pub maxFrames : LinearResampler → ℕ → MaxFrames
 maxFrames r n =
     cond (ratesAllowed (r .«in_rate») (r .«out_rate»)) (cond (leb n 8192) (Max.Frames (roomFrames (r .«in_rate») (r .«out_rate») n)) (Max.Refused TooManyFrames)) (Max.Refused InvalidFormat)
 
--- ---- what an resamplerOf resampler is
+-- rates within their limit, and in_r and out_r of the same ratio: what an opened resampler has
 pub record Rates (r : LinearResampler) : Type 0 where
   pub input-rate : (0 < r .«in_rate») × (r .«in_rate» ≤ 384000)
   pub output-rate : (0 < r .«out_rate») × (r .«out_rate» ≤ 384000)
@@ -45,13 +45,15 @@ pub record Rates (r : LinearResampler) : Type 0 where
   pub out-r : (0 < r .«out_r») × (r .«out_r» ≤ 384000)
   pub same-ratio : r .«in_r» * r .«out_rate» ≡ r .«out_r» * r .«in_rate»
 
+-- before the first frame, and after a reset
 abbrev pub openedState : ResamplerState
 openedState = record { last = pos 0 ∷ pos 0 ∷ []; phase = 0; primed = false }
 
--- how many frames n frames bring, from the phase alone
+-- how many frames n frames bring from a state, by its phase alone
 unfoldable pub carriedCount : ℕ → ℕ → Bool → ℕ → ℕ → ℕ
 carriedCount i o primed phase n = cond primed (count i phase (n * o)) (count i 0 ((n - 1) * o))
 
+-- the same of the stage: equal rates copy
 unfoldable pub resampledCount : LinearResampler → Bool → ℕ → ℕ → ℕ
 resampledCount r primed phase n = cond (eqb (r .«in_rate») (r .«out_rate»)) n (carriedCount (r .«in_r») (r .«out_r») primed phase n)
 

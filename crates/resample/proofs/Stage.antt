@@ -1,4 +1,4 @@
--- Laws of Stage.
+-- The loop's way to begin: from the state's newest frame, whether it holds one or not. Assumes nothing.
 use mathlib.Core.Path.{_≡_, refl, sym, ap, ap₂, _∙_}
 use mathlib.Core.Bool.{Bool, true, false, cond}
 use mathlib.Core.List.{List, [], _∷_, _++_}

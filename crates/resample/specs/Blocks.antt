@@ -1,4 +1,4 @@
--- Blocks one after another: joined, what the stage makes of them is what it makes of the whole stream. Assumes nothing.
+-- Blocks one after another: what the stage makes of them, joined, and its state after them. Assumes nothing.
 use mathlib.Core.List.{List, [], _∷_, _++_}
 use Rattle.pcm.specs.Frames.{Frame}
 use Rattle.resample.specs.Resample.{resampled, stateAfter}

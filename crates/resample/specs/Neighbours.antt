@@ -1,4 +1,4 @@
--- Each sample delivered, from any state: between its two neighbours in its channel, near the line, and within 16 bits. Assumes nothing.
+-- What is said of each sample delivered: its value, between its two neighbours in its channel, near the line. Assumes nothing.
 use mathlib.Core.Path.{_≡_}
 use mathlib.Core.List.{List, [], _∷_}
 use Prim.Native.Nat.{ℕ, suc, _/_, _%_, _<_}

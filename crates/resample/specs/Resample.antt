@@ -1,4 +1,5 @@
--- The resampler (document 01, resample.rs and 'The whole stream'): its closed form over all frames received, and from any state. Definitions only.
+-- The resampler (document 01, resample.rs and 'The whole stream'): the paper's closed form over the whole stream, named whole, and what is carried
+-- on from a state. Definitions only.
 use mathlib.Core.Bool.{true, cond}
 use mathlib.Core.List.{List, [], _∷_}
 use Prim.Native.Nat.{ℕ, suc, _+_, _-_, _*_, _/_, _%_}
@@ -12,12 +13,12 @@ use Rattle.rates.specs.declared.LinearResampler.{LinearResampler}
 use Rattle.rates.specs.declared.ResamplerState.{ResamplerState}
 use Rattle.rates.specs.Rates.{openedState}
 
--- ---- one carriedOutputs
+-- ---- one output
 -- the frame rem / out_r of the way from the frame a to the frame b: each channel by itself
 unfoldable pub blend : ℕ → Frame → Frame → ℕ → Frame
 blend o a b rem = tabulate (length b) (λ c. value o (getD a c (pos 0)) (getD b c (pos 0)) rem)
 
--- the carriedOutputs at num / out_r of the frames X: between Xg and Xg+1, with g = floor(num / out_r) and rem = num mod out_r
+-- the output at num / out_r of the frames X: between Xg and Xg+1, with g = floor(num / out_r) and rem = num mod out_r
 unfoldable pub outputAt : ℕ → List Frame → ℕ → Frame
 outputAt o X num = blend o (getD X (num / o) []) (getD X (suc (num / o)) []) (num % o)
 
@@ -27,7 +28,7 @@ abbrev pub gaps : List Frame → ℕ
 gaps [] = 0
 gaps (x ∷ xs) = length xs
 
--- each carriedOutputs k with k * in_r < (T - 1) * out_r, in order
+-- each output k with k * in_r < (T - 1) * out_r, in order
 unfoldable pub wholeOutputs : ℕ → ℕ → List Frame → List Frame
 wholeOutputs i o X = tabulate (ceilDiv (gaps X * o) i) (λ k. outputAt o X (k * i))
 
@@ -46,24 +47,25 @@ padded (x ∷ y ∷ f) = x ∷ y ∷ f
 abbrev pub holding : Frame → ℕ → ResamplerState
 holding f p = record { last = padded f; phase = p; primed = true }
 
--- the sound state: the newest frame, and k * in_r - (T - 1) * out_r at the first k not wholeOutputs; before the first frame as opened
+-- the sound state: the newest frame, and k * in_r - (T - 1) * out_r at the first k not delivered; before the first frame as opened
 unfoldable pub wholeSoundState : ℕ → ℕ → List Frame → ResamplerState
 wholeSoundState i o [] = openedState
 wholeSoundState i o (x ∷ xs) = holding (newest x xs) (length (wholeOutputs i o (x ∷ xs)) * i - length xs * o)
 
 -- ---- from a state, on the frames xs that follow
--- the frames that the outputsFrom lie among: the state's newest, if there is one, and those that follow
+-- the frames that the outputs lie among: the state's newest, if there is one, and those that follow
 unfoldable pub among : ResamplerState → List Frame → List Frame
 among s xs = cond (s .primed) (s .last ∷ xs) xs
 
--- where among them the first carriedOutputs lies, in out_r-ths of a frame
+-- where among them the first output lies, in out_r-ths of a frame
 unfoldable pub firstAt : ResamplerState → ℕ
 firstAt s = cond (s .primed) (s .phase) 0
 
--- from p on in steps of in_r, each carriedOutputs that lies before the newest of X
+-- from p on in steps of in_r, each output that lies before the newest of X
 unfoldable pub outputsFrom : ℕ → ℕ → ℕ → List Frame → List Frame
 outputsFrom i o p X = tabulate (count i p (gaps X * o)) (λ j. outputAt o X (p + j * i))
 
+-- what the frames xs bring from the state s, and the state after them
 unfoldable pub carriedOutputs : ℕ → ℕ → ResamplerState → List Frame → List Frame
 carriedOutputs i o s xs = outputsFrom i o (firstAt s) (among s xs)
 

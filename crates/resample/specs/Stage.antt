@@ -1,5 +1,4 @@
--- A block of bytes through the stage, over the channel count: what a call needs and what it promises, and how the loop's position starts.
--- Assumes nothing.
+-- A block of bytes through the stage, over the channel count: what a call needs and what it promises. Assumes nothing.
 use mathlib.Core.Path.{_≡_}
 use mathlib.Core.Bool.{cond}
 use mathlib.Core.List.{List}

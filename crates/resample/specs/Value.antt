@@ -1,4 +1,5 @@
--- The value between two samples (document 01, resample.rs): it lies between them, near the line, and is a sample. Assumes nothing.
+-- The value between two samples, and what it is held to: its neighbours and the line (document 01, resample.rs and 'The whole stream').
+-- Assumes nothing.
 use mathlib.Core.Logic.{_⊎_}
 use Prim.Native.Nat.{ℕ, _+_, _*_, _/_, _^_, _≤_}
 use lib.IntN.{ℤ, pos, natAbs, _+ℤ_, _-ℤ_, _*ℤ_}

@@ -1,4 +1,5 @@
--- Which stages suit a format, how many frames a stage delivers, and the room that it wants (document 01, pipeline.rs). Assumes nothing.
+-- Which stages suit a format, how many frames a stage delivers, the room that it wants, and its turn (document 01, pipeline.rs).
+-- Assumes nothing.
 use mathlib.Core.Path.{_≡_}
 use mathlib.Core.Bool.{Bool, true, _&&_}
 use mathlib.Core.List.{List}
@@ -17,7 +18,6 @@ use Rattle.stage.specs.declared.SoundMemory.{SoundMemory}
 use Rattle.stage.specs.declared.Stage.{Stage}
 use Rattle.stage.specs.Stages.{stageOut, stageNext, formatAfter}
 
--- ---- definitions
 -- rates within their limit, and in_r and out_r of the same ratio and no larger
 unfoldable pub ratesSuit : LinearResampler → Bool
 ratesSuit r =
@@ -25,7 +25,7 @@ ratesSuit r =
     && ((ltb 0 (r .«in_r») && leb (r .«in_r») (r .«in_rate»))
     && ((ltb 0 (r .«out_r») && leb (r .«out_r») (r .«out_rate»)) && eqb (r .«in_r» * r .«out_rate») (r .«out_r» * r .«in_rate»)))
 
--- what the block call needs of a stage that this format reaches: settings within their limits, a format that stageSuits, a phase below in_r
+-- what the block call needs of a stage that this format reaches: settings within their limits, a format that suits, a phase below in_r
 unfoldable pub stageSuits : PcmFormat → StageKind → SoundMemory → Bool
 stageSuits f (kind.Gain g) m = factorAllowed (g .q15)
 stageSuits f kind.MonoToStereo m = eqb (f .channels) 1
@@ -56,7 +56,7 @@ framesWanted (kind.Biquad b) n = n
 unfoldable pub roomWanted : PcmFormat → StageKind → ℕ → ℕ
 roomWanted f k n = framesWanted k n * (formatAfter f k .channels * 2)
 
--- a resampler that stageSuits
+-- a resampler that suits the format
 pub record Resamples (f : PcmFormat) (r : LinearResampler) (m : SoundMemory) : Type 0 where
   pub rates : Rates r
   pub reached : f .rate ≡ r .«in_rate»
@@ -81,7 +81,7 @@ Held (kind.DcBlock b) m = Unit {0}
 Held (kind.Biquad b) m = Unit {0}
 
 -- ---- a stage's turn
--- whole frames of one or two channels to read, at least one, in a format that stageSuits the stage, and the room that it wants
+-- whole frames of one or two channels to read, at least one, in a format that suits the stage, and the room that it wants
 pub record Served (f : PcmFormat) (s : Stage) (source target : List ℕ) : Type 0 where
   pub suit : stageSuits f (s .kind) (s .memory) ≡ true
   pub channels : (0 < f .channels) × (f .channels ≤ 2)

@@ -8,7 +8,7 @@ use Rattle.pcm.specs.declared.Verdict.the-variants.{Accepted}
 use Rattle.pcm.specs.Formats.{rateAllowed, channelsAllowed, formatAllowed}
 use Rattle.pcm.specs.Samples.{sampleOf, lowOf, highOf}
 use Rattle.pcm.specs.Frames.{Frame, framesOf, bytesOf, written}
-use Rattle.rates.specs.Divisor.{gcd, largest}
+use Rattle.rates.specs.Divisor.{gcd, largestDivisor}
 use Rattle.rates.specs.Rates.{carriedCount, resampledCount, ratesAllowed, reduced, roomFrames}
 use Rattle.resample.specs.Value.{interpolated}
 use Rattle.resample.specs.Resample.{blend, outputAt, wholeOutputs, among, firstAt, outputsFrom, carriedOutputs, carriedState, resampled, stateAfter, resampledWhole}
@@ -57,11 +57,11 @@ abbrev played : Pipeline → List ℕ → Result
 played c bytes = blockCall c mono8000 0 bytes lentHalf lentHalf
 
 first-call-f : played (openCall mono8000 recipe .chain) (0 ∷ 0 ∷ []) .answer ≡ NothingYet
-unfolding blockCall blockVerdict legal suited stageSuits ratesSuit ratesAllowed rateAllowed channelsAllowed formatAllowed roomsVerdict roomWanted framesWanted framesOut resampledCount carriedCount roomFrames accepted bytesOf framesOf sampleOf lowOf highOf formatLeaving stageOut stageNext resampled stateAfter carriedOutputs outputsFrom carriedState among firstAt outputAt blend interpolated reduced gcd largest chainOf
+unfolding blockCall blockVerdict legal suited stageSuits ratesSuit ratesAllowed rateAllowed channelsAllowed formatAllowed roomsVerdict roomWanted framesWanted framesOut resampledCount carriedCount roomFrames accepted bytesOf framesOf sampleOf lowOf highOf formatLeaving stageOut stageNext resampled stateAfter carriedOutputs outputsFrom carriedState among firstAt outputAt blend interpolated reduced gcd largestDivisor chainOf
 first-call-f = ap (λ (c : Pipeline). played c (0 ∷ 0 ∷ []) .answer) chain-f
 
 second-call-f : callOutput (played (played (openCall mono8000 recipe .chain) (0 ∷ 0 ∷ []) .chain) (100 ∷ 0 ∷ 50 ∷ 0 ∷ [])) ≡ 0 ∷ 0 ∷ 50 ∷ 0 ∷ 100 ∷ 0 ∷ 75 ∷ 0 ∷ []
-unfolding blockCall blockVerdict legal suited stageSuits ratesSuit ratesAllowed rateAllowed channelsAllowed formatAllowed roomsVerdict roomWanted framesWanted framesOut resampledCount carriedCount roomFrames accepted passed written bytesOf framesOf sampleOf lowOf highOf formatLeaving stageOut stageNext resampled stateAfter carriedOutputs outputsFrom carriedState among firstAt outputAt blend interpolated reduced gcd largest chainOf
+unfolding blockCall blockVerdict legal suited stageSuits ratesSuit ratesAllowed rateAllowed channelsAllowed formatAllowed roomsVerdict roomWanted framesWanted framesOut resampledCount carriedCount roomFrames accepted passed written bytesOf framesOf sampleOf lowOf highOf formatLeaving stageOut stageNext resampled stateAfter carriedOutputs outputsFrom carriedState among firstAt outputAt blend interpolated reduced gcd largestDivisor chainOf
 second-call-f = ap (λ (c : Pipeline). callOutput (played (played c (0 ∷ 0 ∷ []) .chain) (100 ∷ 0 ∷ 50 ∷ 0 ∷ []))) chain-f
 
 -- ---- `whole-stream` at work
@@ -76,7 +76,7 @@ abbrev frames : List Frame
 frames = map (λ (x : ℕ). pos x ∷ []) (0 ∷ 100 ∷ 50 ∷ [])
 
 stream-f : streamOf (openCall mono8000 recipe .chain) calls ≡ frames
-unfolding plainVerdict plainRoom plainStage resampledWhole wholeOutputs outputAt blend interpolated reduced gcd largest framesWanted roomWanted roomFrames framesOf sampleOf rateAllowed channelsAllowed formatAllowed chainOf
+unfolding plainVerdict plainRoom plainStage resampledWhole wholeOutputs outputAt blend interpolated reduced gcd largestDivisor framesWanted roomWanted roomFrames framesOf sampleOf rateAllowed channelsAllowed formatAllowed chainOf
 stream-f = ap (λ (c : Pipeline). streamOf c calls) chain-f
 
 whole-f : WholeStream (openCall mono8000 recipe .chain) frames (runOf (openCall mono8000 recipe .chain) calls)
@@ -84,7 +84,7 @@ whole-f = rw stream-f at (whole-stream mono8000 recipe (ap (λ (x : Opened). x .
 
 -- 0, 50, 100, 75
 plain-f : bytesOf (plainOut (kindsIn (openCall mono8000 recipe .chain)) frames) ≡ 0 ∷ 0 ∷ 50 ∷ 0 ∷ 100 ∷ 0 ∷ 75 ∷ 0 ∷ []
-unfolding plainOut plainStage resampledWhole wholeOutputs outputAt blend interpolated reduced gcd largest bytesOf lowOf highOf chainOf
+unfolding plainOut plainStage resampledWhole wholeOutputs outputAt blend interpolated reduced gcd largestDivisor bytesOf lowOf highOf chainOf
 plain-f = ap (λ (c : Pipeline). bytesOf (plainOut (kindsIn c) frames)) chain-f
 
 output-f : runOf (openCall mono8000 recipe .chain) calls .joined ≡ 0 ∷ 0 ∷ 50 ∷ 0 ∷ 100 ∷ 0 ∷ 75 ∷ 0 ∷ []

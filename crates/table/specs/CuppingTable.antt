@@ -13,7 +13,7 @@ use Rattle.filters.specs.Filters.{atRest, filtered}
 use Rattle.gain.specs.Gain.{heldFactor, scaled}
 use Rattle.channels.specs.Channels.{mixdown, mean, mixed}
 use Rattle.dc_block.specs.DcBlock.{dcTick}
-use Rattle.rates.specs.Divisor.{gcd, largest}
+use Rattle.rates.specs.Divisor.{gcd, largestDivisor}
 use Rattle.resample.specs.Value.{interpolated}
 use Rattle.resample.specs.Resample.{blend, outputAt, wholeOutputs, among, firstAt, outputsFrom, carriedOutputs, resampled, resampledWhole}
 use Rattle.rates.specs.Rates.{openedState, reduced}
@@ -64,22 +64,22 @@ e = refl
 
 -- (f) 8,000 to 16,000 Hz, frames 0, 100, 50: 0, 50, 100, 75
 f : resampledWhole (reduced 8000 16000) (mono (0 ∷ 100 ∷ 50 ∷ [])) ≡ mono (0 ∷ 50 ∷ 100 ∷ 75 ∷ [])
-unfolding resampledWhole wholeOutputs outputAt blend interpolated reduced gcd largest
+unfolding resampledWhole wholeOutputs outputAt blend interpolated reduced gcd largestDivisor
 f = refl
 
 -- cut after frame 0 the first call is 'nothing yet'
 f-cut : resampled (reduced 8000 16000) openedState (mono (0 ∷ [])) ≡ []
-unfolding resampled carriedOutputs outputsFrom among firstAt outputAt reduced gcd largest
+unfolding resampled carriedOutputs outputsFrom among firstAt outputAt reduced gcd largestDivisor
 f-cut = refl
 
 -- (g) 16,000 to 8,000 Hz, frames 10, 20, 30, 40: 10, 30
 g : resampledWhole (reduced 16000 8000) (mono (10 ∷ 20 ∷ 30 ∷ 40 ∷ [])) ≡ mono (10 ∷ 30 ∷ [])
-unfolding resampledWhole wholeOutputs outputAt blend interpolated reduced gcd largest
+unfolding resampledWhole wholeOutputs outputAt blend interpolated reduced gcd largestDivisor
 g = refl
 
 -- (h) 1 to 3 Hz, frames 0, 3: 0, 1, 2
 h : resampledWhole (reduced 1 3) (mono (0 ∷ 3 ∷ [])) ≡ mono (0 ∷ 1 ∷ 2 ∷ [])
-unfolding resampledWhole wholeOutputs outputAt blend interpolated reduced gcd largest
+unfolding resampledWhole wholeOutputs outputAt blend interpolated reduced gcd largestDivisor
 h = refl
 
 -- (i) DC block with r one half, mono, samples 100, 100, 0: 100, 50, -75

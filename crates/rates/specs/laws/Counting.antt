@@ -1,4 +1,4 @@
--- Laws of the definitions in Counting. Assumes nothing.
+-- Lists by index; a count is the least number of steps that reaches the limit, and counts add up; ceilings. Assumes nothing.
 use mathlib.Core.Path.{_≡_, refl, sym, ap, ap₂, _∙_}
 use mathlib.Core.Logic.{_⊎_, inl, inr}
 use mathlib.Core.List.{List, [], _∷_, _++_}
@@ -10,7 +10,7 @@ use lib.ListN.{length, getD}
 use Rattle.pcm.specs.Samples.{All}
 use Rattle.rates.specs.Counting.{tabulate, ceilDiv, count, past}
 
--- ---- laws: lists by index
+-- ---- lists by index
 module _ {A : Type 0} where
   pub tabulate-ext : (n : ℕ) (f g : ℕ → A) → ((j : ℕ) → j < n → f j ≡ g j) → tabulate n f ≡ tabulate n g
   tabulate-ext zero f g h = refl
@@ -39,7 +39,7 @@ module _ {A : Type 0} where
   list-is d [] = refl
   list-is d (x ∷ l) = ap (λ (r : List A). x ∷ r) (list-is d l)
 
--- ---- laws: counting
+-- ---- counting
 module _ (i : ℕ) (hi : 0 < i) where
   pub count-reach : (p D : ℕ) → D ≤ p + count i p D * i
   count-reach p D = omega (arith, div-add-mod' (D - p + (i - 1)) i, mod-lt (D - p + (i - 1)) hi)
@@ -100,6 +100,7 @@ by-step : (P : ℕ → Type 0) → P 0 → ((i : ℕ) → 0 < i → P i) → (i 
 by-step P z h zero = z
 by-step P z h (suc i) = h (suc i) (suc-le-suc zero-le)
 
+-- where something counts, the step is above 0
 pub step-positive : (i p D j : ℕ) → j < count i p D → 0 < i
 step-positive i p D j h = pick (eq-zero-or-pos i)
   where
@@ -118,6 +119,7 @@ past-sum i p D E = by-step (λ n. past n p (D + E) ≡ past n (past n p D) E) (o
 pub count-none-past : (i p D : ℕ) → D ≤ p → count i p D ≡ 0
 count-none-past i p D l = by-step (λ n. count n p D ≡ 0) (count-none p D) (λ n h. let e : count n p D ≤ 0 = count-least n h p D 0 (omega arith) in omega arith) i
 
+-- below a product, each factor is above 0
 pub factor-positive : (n o num : ℕ) → num < n * o → 0 < o
 factor-positive n o num h = pick (eq-zero-or-pos o)
   where
@@ -125,7 +127,7 @@ factor-positive n o num h = pick (eq-zero-or-pos o)
     pick (inl e) = absurd (omega (arith, rw e at h))
     pick (inr k) = k
 
--- ---- laws: ceilings
+-- ---- ceilings
 pub ceil-is-count : (i D : ℕ) → count i 0 D ≡ ceilDiv D i
 ceil-is-count i D = let e : D - 0 ≡ D = omega arith in rw e
 

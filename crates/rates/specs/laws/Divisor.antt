@@ -1,4 +1,4 @@
--- Laws of the definitions in Divisor. Assumes nothing.
+-- The greatest common divisor by Euclid's steps: it divides both, and each common divisor divides it. Assumes nothing.
 use mathlib.Core.Path.{_≡_, refl, sym, subst}
 use mathlib.Core.Bool.{Bool, true, false, cond}
 use Prim.Native.Nat.{ℕ, zero, suc, _*_, _/_, _%_, _≤_, _<_, _∣_, suc-le-suc, zero-le}
@@ -6,7 +6,7 @@ use native.Mathlib.Nat.{le-refl, le-antisymm, not-suc-le-zero, mod-lt, div-le-se
 use native.Mathlib.Omega.{arith}
 use lib.Dec.{eqb}
 use borrow.Author.Tests.{eqb-true, eqb-false}
-use Rattle.rates.specs.Divisor.{GreatestCommonDivisor, largest, gcd}
+use Rattle.rates.specs.Divisor.{GreatestCommonDivisor, largestDivisor, gcd}
 
 -- the divisor of b and a % b is that of a and b
 pub gcd-step : {a b g : ℕ} → GreatestCommonDivisor b (a % b) g → GreatestCommonDivisor a b g
@@ -28,15 +28,15 @@ euclid (suc f) a (suc b) h =
     let r = euclid f (suc b) (a % suc b) (omega arith) in
     (r .0, gcd-step (r .1))
 
-largest-is : (n : ℕ) {a b g : ℕ} → 0 < g → GreatestCommonDivisor a b g → g ≤ n → largest n a b ≡ g
-unfolding largest
+largest-is : (n : ℕ) {a b g : ℕ} → 0 < g → GreatestCommonDivisor a b g → g ≤ n → largestDivisor n a b ≡ g
+unfolding largestDivisor
 largest-is zero {a} {b} {g} p r h = omega arith
 largest-is (suc n) {a} {b} {g} p r h = pick (λ k. largest-is n p r k) (eqb (a % suc n) 0) (eqb (b % suc n) 0) refl refl
   where
     below : (g ≡ suc n → ⊥) → g ≤ n
     below k = omega arith
 
-    pick : (g ≤ n → largest n a b ≡ g) → (s t : Bool) → eqb (a % suc n) 0 ≡ s → eqb (b % suc n) 0 ≡ t → cond (eqb (a % suc n) 0) (cond (eqb (b % suc n) 0) (suc n) (largest n a b)) (largest n a b) ≡ g
+    pick : (g ≤ n → largestDivisor n a b ≡ g) → (s t : Bool) → eqb (a % suc n) 0 ≡ s → eqb (b % suc n) 0 ≡ t → cond (eqb (a % suc n) 0) (cond (eqb (b % suc n) 0) (suc n) (largestDivisor n a b)) (largestDivisor n a b) ≡ g
     pick i true true e f =
         rw (e, f) (le-antisymm (le-of-dvd p (r .greatest (suc n) (dvd-of-mod-eq-zero (suc n) (eqb-true _ _ e)) (dvd-of-mod-eq-zero (suc n) (eqb-true _ _ f)))) h)
     pick i true false e f = rw (e, f) (i (below (λ k. eqb-false _ _ f (mod-eq-zero-of-dvd (suc n) (subst (λ (x : ℕ). x ∣ b) k (r .second))))))

@@ -1,4 +1,4 @@
--- Laws of the definitions in Rates. Assumes nothing.
+-- What rates within the limit give: reduced rates of the same ratio, and counts within the room. Assumes nothing.
 use mathlib.Core.Path.{_≡_, sym, ap, ap₂, _∙_}
 use mathlib.Core.Bool.{Bool, true, false}
 use Prim.Native.Nat.{ℕ, _-_, _*_, _/_, _≤_, _<_}

@@ -5,13 +5,19 @@ use mathlib.Core.Path.{_≡_, sym, ap, _∙_}
 use Prim.Native.Nat.{ℕ, _*_, _/_, _≤_, _<_}
 use native.Mathlib.Nat.{div-add-mod'}
 use native.Mathlib.Omega.{arith}
+use mathlib.Core.Bool.{false}
+use mathlib.Core.List.{List}
+use lib.Dec.{eqb}
 use lib.ListN.{length}
 use Rattle.pcm.specs.Samples.{Bytes}
 use Rattle.pcm.specs.laws.Samples.{all-by-index}
 use Rattle.pcm.specs.Frames.{framesOf}
 use Rattle.pcm.specs.laws.Frames.{length-frames, bytes-frames}
-use Rattle.resample.specs.Resample.{carriedOutputs}
-use Rattle.resample.specs.Stage.{Ready}
+use Rattle.resample.specs.Resample.{carriedOutputs, carriedState, resampled, stateAfter}
+use Rattle.resample.specs.Stage.{Ready, Processed}
+use Rattle.resample.specs.declared.Resampled.{Resampled}
+use Rattle.rates.specs.declared.LinearResampler.{LinearResampler}
+use Rattle.rates.specs.declared.ResamplerState.{ResamplerState}
 use Rattle.resample.specs.Theorems.{resampled-equal, state-equal}
 use Rattle.resample.proofs.Stage.{resampled-unequal, state-unequal}
 use Rattle.resample.proofs.process.Statement.{statement}
@@ -54,25 +60,23 @@ unequal c =
 two : (c : tie.Else2) → c .before .before .before .before .before .args .channels ≡ 2
 two c = let s = c .before .before .before .before .before in omega (arith, s .pre .channels .0, s .pre .channels .1, c .if2 .left)
 
-returns-2 : tie.Need-returns-2
-returns-2 c =
-    let m = c .before .before in
-    let t = m .before .before in
-    let a = t .before .before .before .before .before .args in
-    let xs = framesOf (a .channels) (a .input .now) in
-    let e = ne-eqb _ _ (t .before .if1 .left) in
-    rw (resampled-unequal (a .resampler) (a .s) xs e, state-unequal (a .resampler) (a .s) xs e, t .if2 .taken) (m .resample-mono .ensures)
-
-returns-3 : tie.Need-returns-3
-returns-3 c =
-    let m = c .before .before in
-    let t = m .before .before in
-    let a = t .before .before .before .before .before .args in
-    let xs = framesOf (a .channels) (a .input .now) in
-    let e = ne-eqb _ _ (t .before .if1 .left) in
-    rw (resampled-unequal (a .resampler) (a .s) xs e, state-unequal (a .resampler) (a .s) xs e, two t) (m .resample-stereo .ensures)
+-- so what the block function of ch channels promises is what the stage does
+done : (r : LinearResampler) (s : ResamplerState) {channels ch : ℕ} (input : List ℕ) {before after : List ℕ} {d : Resampled} → eqb (r .«in_rate») (r .«out_rate») ≡ false → channels ≡ ch
+    → Processed (carriedOutputs (r .«in_r») (r .«out_r») s (framesOf ch input)) (carriedState (r .«in_r») (r .«out_r») s (framesOf ch input)) before after d
+    → Processed (resampled r s (framesOf channels input)) (stateAfter r s (framesOf channels input)) before after d
+done r s {channels} input e n p = rw (resampled-unequal r s (framesOf channels input) e, state-unequal r s (framesOf channels input) e, n) p
 
 pub process-spec : {M : Type 1} → statement M
 process-spec = tie.close (tie.spec copy-front-requires (λ c. search needs) (λ c. search needs) (λ c. search needs) returns
-    (λ c κs. rw (c .before .if2 .taken) at (unequal (c .before .before))) (λ c. search needs) returns-2
-    (λ c κs. rw (two (c .before)) at (unequal (c .before .before))) (λ c. search needs) returns-3)
+    (λ c κs. rw (c .before .if2 .taken) at (unequal (c .before .before))) (λ c. search needs)
+    (λ c.
+    let m = c .before .before in
+    let t = m .before .before in
+    let a = t .before .before .before .before .before .args in
+    done (a .resampler) (a .s) (a .input .now) (ne-eqb _ _ (t .before .if1 .left)) (t .if2 .taken) (m .resample-mono .ensures))
+    (λ c κs. rw (two (c .before)) at (unequal (c .before .before))) (λ c. search needs)
+    (λ c.
+    let m = c .before .before in
+    let t = m .before .before in
+    let a = t .before .before .before .before .before .args in
+    done (a .resampler) (a .s) (a .input .now) (ne-eqb _ _ (t .before .if1 .left)) (two t) (m .resample-stereo .ensures)))

@@ -1,4 +1,4 @@
--- Laws of the definitions in Blocks. Assumes nothing.
+-- Blocks joined are the stream whole, from any state; from an opened one the paper's closed form. Assumes nothing.
 use mathlib.Core.Path.{_≡_, sym, ap, _∙_}
 use mathlib.Core.Bool.{cond}
 use mathlib.Core.List.{List, [], _∷_, _++_}

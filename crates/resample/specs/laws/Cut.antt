@@ -1,4 +1,4 @@
--- Laws of Cut.
+-- The cut law: frames in two parts, the second from the state after the first, bring what the whole brings. Assumes nothing.
 use mathlib.Core.Path.{_≡_, refl, sym, ap, ap₂, _∙_}
 use mathlib.Core.Bool.{Bool, true, false, cond}
 use mathlib.Core.List.{List, [], _∷_, _++_, append-nil}
@@ -28,7 +28,7 @@ getD-newest x (y ∷ ys) zs h = rw suc-add (getD-newest y ys zs h)
 gaps-append : (o : ℕ) (ys zs : List Frame) → length (ys ++ zs) * o ≡ length ys * o + length zs * o
 gaps-append o ys zs = ap (λ (n : ℕ). n * o) (length-append ys zs) ∙ add-mul (length ys) (length zs) o
 
--- ---- an carriedOutputs before the cut, and one after it
+-- ---- an output before the cut, and one after it
 module _ (o : ℕ) (x : Frame) (ys zs : List Frame) where
   output-before : (num : ℕ) → num < length ys * o → outputAt o (x ∷ (ys ++ zs)) num ≡ outputAt o (x ∷ ys) num
   unfolding outputAt

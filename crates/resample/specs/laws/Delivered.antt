@@ -1,4 +1,4 @@
--- Laws of Delivered.
+-- An opened stage brings the paper's closed form; how many frames are brought, from any state. Assumes nothing.
 use mathlib.Core.Path.{_≡_, refl, sym, ap, _∙_}
 use mathlib.Core.Bool.{Bool, true, false, cond}
 use mathlib.Core.List.{List, [], _∷_}

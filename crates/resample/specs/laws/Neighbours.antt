@@ -1,4 +1,4 @@
--- Laws of the definitions in Neighbours. Assumes nothing.
+-- Of frames the stage makes frames, and each sample is as DeliveredSample says, from any state. Assumes nothing.
 use mathlib.Core.Path.{_≡_, _∙_}
 use mathlib.Core.Bool.{Bool, true, false, cond}
 use mathlib.Core.List.{List, [], _∷_}
@@ -54,7 +54,7 @@ blend-frame ch o a b r h p q = record {
       (λ c k. interpolated-fits (getD a c (pos 0)) (getD b c (pos 0)) (frac o r) (frac-below o r h) (sample-at a c p) (sample-at b c (q .fits)));
 }
 
--- ---- an carriedOutputs from p on in steps of in_r
+-- ---- an output from p on in steps of in_r
 module _ (ch i o p : ℕ) (X : List Frame) (a : FramesAfter ch X) (j : ℕ) (h : j < count i p (gaps X * o)) where
   before : p + j * i < gaps X * o
   before = count-before i (step-positive i p (gaps X * o) j h) p (gaps X * o) j h

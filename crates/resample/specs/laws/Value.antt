@@ -1,4 +1,4 @@
--- Laws of the definitions in Value. Assumes nothing.
+-- The value between two samples lies between them, is a sample, and is near the line. Assumes nothing.
 use mathlib.Core.Path.{_≡_, refl, sym, ap, _∙_}
 use mathlib.Core.Logic.{_⊎_, inl, inr}
 use Prim.Native.Nat.{ℕ, zero, suc, _+_, _-_, _*_, _/_, _≤_, _<_}

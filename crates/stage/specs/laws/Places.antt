@@ -1,4 +1,4 @@
--- The eight places of a chain's array, and a record written after others. Assumes nothing.
+-- The default that the toolchain fixes for an array of stages. Assumes nothing.
 use mathlib.Core.Bool.{false}
 use mathlib.Core.List.{[]}
 use lib.IntN.{pos}

@@ -1,4 +1,4 @@
--- Laws of the definitions in Rooms. Assumes nothing.
+-- What a stage that suits its format has: rates within their limits, counts within the room wanted, frames of frames. Assumes nothing.
 use mathlib.Core.Path.{_≡_}
 use mathlib.Core.Bool.{true, _&&_}
 use mathlib.Core.List.{List, map}

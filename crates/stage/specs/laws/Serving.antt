@@ -1,4 +1,4 @@
--- Laws of Serving.
+-- A stage's turn, kind by kind: what its block function asks, and that its promise serves the turn. Assumes nothing.
 use mathlib.Core.Path.{_≡_, refl, sym, ap, ap₂, _∙_, subst}
 use mathlib.Core.Bool.{true}
 use mathlib.Core.List.{List, map}

@@ -1,4 +1,4 @@
--- Laws of the definitions in Stages. Assumes nothing.
+-- A stage makes nothing of nothing, and of a stream in two parts what it makes of the whole. Assumes nothing.
 use mathlib.Core.Path.{_≡_, refl, ap}
 use mathlib.Core.List.{List, [], _++_, map}
 use Rattle.filters.specs.declared.FilterMemory.{FilterMemory}
@@ -17,7 +17,7 @@ use Rattle.stage.specs.declared.SoundMemory.{SoundMemory}
 use Rattle.stage.specs.declared.Stage.{Stage}
 use Rattle.stage.specs.Stages.{outOf, keepsOf, stageOut, stageNext, stageClear}
 
--- ---- laws: nothing from nothing, and a stream in two parts is the whole
+-- ---- by kind
 module _ (m : SoundMemory) where
   out-nil : (k : StageKind) → outOf k m [] ≡ []
   out-nil (kind.Gain g) = refl
