@@ -16,7 +16,7 @@ use Rattle.turns.specs.Turns.{halves}
 use Rattle.block.specs.declared.Answer.the-variants as answer
 use Rattle.block.specs.declared.Scratch.{Scratch}
 use Rattle.block.specs.BlockCall.{Result, sizeAsked, blockVerdict, shorter, lastHalf, outputBytes, accepted, concluded, blockCall, scratchAnswer, scratchFigure, scratchBytes}
-use Rattle.block.specs.Told.{soundTold, silentTold, answerTold, toldOfBlock, blockTold, scratchValued, sizeValued}
+use Rattle.block.specs.Told.{soundTold, silentTold, answerTold, toldOfBlock, blockTold, scratchTold}
 
 module _ (c : Pipeline) (format : PcmFormat) (t : ℕ) (block a b : List ℕ) where
   abbrev leaving : PcmFormat
@@ -38,10 +38,10 @@ module _ (c : Pipeline) (format : PcmFormat) (t : ℕ) (block a b : List ℕ) wh
   unfolding blockCall
   with-told r e = (e, ap (λ (x : Result). answerTold (x .answer)) e ∙ told-by (blockVerdict c format (length block) (shorter a b)))
 
-valued-by : (v : Verdict) (n : ℕ) → scratchValued (scratchAnswer v n) ≡ valued v n
+valued-by : (v : Verdict) (n : ℕ) → scratchTold (scratchAnswer v n) ≡ valued v n
 valued-by Accepted n = refl
 valued-by (Refused e) n = refl
 
-pub with-value : (c : Pipeline) (size : ℕ) (r : Scratch) → r ≡ scratchBytes c size → (r ≡ scratchBytes c size) × (scratchValued r ≡ sizeValued c size)
+pub with-value : (c : Pipeline) (size : ℕ) (r : Scratch) → r ≡ scratchBytes c size → (r ≡ scratchBytes c size) × (scratchTold r ≡ valued (sizeAsked c size Accepted) (scratchFigure c size))
 unfolding scratchBytes
-with-value c size r e = (e, ap scratchValued e ∙ valued-by (sizeAsked c size Accepted) (scratchFigure c size))
+with-value c size r e = (e, ap scratchTold e ∙ valued-by (sizeAsked c size Accepted) (scratchFigure c size))

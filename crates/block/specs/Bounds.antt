@@ -1,4 +1,4 @@
--- No stage is reached by more frames than fit: frames times the first rate are at most (8,192 + 768,000 i) times the rate there. Assumes nothing.
+-- The parts of a chain that is `legal`. Assumes nothing.
 use mathlib.Core.Path.{_≡_}
 use mathlib.Core.Bool.{true}
 use Prim.Native.Nat.{_≤_, _<_}

@@ -1,4 +1,4 @@
--- The plain chain (document 01, 'The whole stream'): each stage takes all that the one before makes. Assumes nothing.
+-- The plain chain from any state (document 01, 'The whole stream'): each stage takes all that the one before makes. Definitions only.
 use mathlib.Core.List.{List, [], _∷_}
 use Rattle.pcm.specs.Frames.{Frame}
 use Rattle.stage.specs.declared.Stage.{Stage}

@@ -18,7 +18,7 @@ use Rattle.block.specs.declared.Answer.the-variants as answer
 use Rattle.block.specs.declared.Scratch.{Scratch}
 use Rattle.block.specs.declared.Scratch.the-variants as scratch
 use Rattle.block.specs.declared.Told.{Told}
-use Rattle.block.specs.BlockCall.{shorter, sizeAsked, blockVerdict, lastHalf, outputBytes, scratchFigure}
+use Rattle.block.specs.BlockCall.{shorter, blockVerdict, lastHalf, outputBytes}
 
 -- 0 is half a, 1 is half b
 abbrev pub halfNumber : Half → ℕ
@@ -49,10 +49,6 @@ blockTold c format timestamp bytes a b =
     toldOfBlock (blockVerdict c format (length bytes) (shorter a b)) (formatLeaving (c .format) (stagesOf c)) timestamp (lastHalf (c .count)) (outputBytes c bytes)
 
 -- ---- scratch_bytes: number and value
-abbrev pub scratchValued : Scratch → Valued
-scratchValued (scratch.Bytes n) = record { number = 0; value = n }
-scratchValued (scratch.Refused e) = record { number = refusal e .number; value = 0 }
-
--- by the verdict on the size
-abbrev pub sizeValued : Pipeline → ℕ → Valued
-sizeValued c size = valued (sizeAsked c size Accepted) (scratchFigure c size)
+abbrev pub scratchTold : Scratch → Valued
+scratchTold (scratch.Bytes n) = valued Accepted n
+scratchTold (scratch.Refused e) = valued (Refused e) 0

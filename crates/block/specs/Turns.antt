@@ -1,4 +1,4 @@
--- What one stage's turn in a block asks and gives. Assumes nothing.
+-- An accepted block, and the steps of the call: the copy where there are no stages, the next stage, the counter. Definitions only.
 use mathlib.Core.Path.{_≡_}
 use mathlib.Core.Bool.{true, cond}
 use mathlib.Core.List.{List}

@@ -2,8 +2,10 @@
 ghost use mathlib.Core.Path.{_≡_};
 ghost use Prim.Native.Nat.{_≤_, _<_};
 ghost use lib.ListN.{length};
-ghost use Rattle.block.specs.BlockCall.{countedUp, lastHalf, outputAnswer, blockCall, scratchBytes, shorterOf, frontOf, outputOf};
-ghost use Rattle.block.specs.Told.{halfNumber, silentTold, answerTold, blockTold, scratchValued, sizeValued};
+ghost use Rattle.pcm.specs.Refusals.{valued};
+ghost use Rattle.pcm.specs.declared.Verdict.the-variants.{Accepted};
+ghost use Rattle.block.specs.BlockCall.{countedUp, lastHalf, outputAnswer, blockCall, sizeAsked, scratchFigure, scratchBytes, shorterOf, frontOf, outputOf};
+ghost use Rattle.block.specs.Told.{halfNumber, silentTold, answerTold, blockTold, scratchTold};
 ghost use Rattle.block.specs.Turns.{countedIf, unstaged, nextStage};
 use pcm::Error;
 use pcm::PcmFormat;
@@ -109,7 +111,7 @@ pub enum Scratch {
 impl Scratch {
     // 0, or the refusal's number.
     pub fn number(self) -> u16
-        ensures { λ r. ⌜ r ≡ scratchValued self .number ⌝ }
+        ensures { λ r. ⌜ r ≡ scratchTold self .number ⌝ }
     {
         match self {
             Scratch::Bytes(_) => 0,
@@ -119,7 +121,7 @@ impl Scratch {
 
     // The figure, 0 where it is refused.
     pub fn value(self) -> usize
-        ensures { λ r. ⌜ r ≡ scratchValued self .value ⌝ }
+        ensures { λ r. ⌜ r ≡ scratchTold self .value ⌝ }
     {
         match self {
             Scratch::Bytes(n) => n,
@@ -288,7 +290,7 @@ pub fn front<'a>(s: &'a [u8], len: usize) -> &'a [u8]
 // a chain of no stages.
 pub fn scratch_bytes(chain: Pipeline, size: usize) -> Scratch
     ensures all { λ r. ⌜ r ≡ scratchBytes chain size ⌝ }
-    ensures told { λ r. ⌜ scratchValued r ≡ sizeValued chain size ⌝ }
+    ensures told { λ r. ⌜ scratchTold r ≡ valued (sizeAsked chain size Accepted) (scratchFigure chain size) ⌝ }
 {
     let own = chain.format;
     let count = chain.count;

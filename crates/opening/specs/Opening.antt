@@ -1,4 +1,4 @@
--- Opening a chain: the questions in their order, from a format and bytes to a chain or a refusal (document 01, 'The recipe' and 'The questions'). Definitions only.
+-- One record's stage: its questions 8, 9 and 2, and the stage that it opens (document 01, 'The questions'). Definitions only.
 use mathlib.Core.Bool.{Bool, true}
 use Prim.Native.Nat.{ℕ}
 use lib.Dec.{ltb, eqb}

@@ -1,4 +1,4 @@
--- Laws of OpeningLaws.
+-- What a record's answer tells of its questions, and the rate that leaves a stage. Assumes nothing.
 use mathlib.Core.Path.{_≡_, refl}
 use mathlib.Core.Bool.{true}
 use mathlib.Core.List.{List}
@@ -16,7 +16,7 @@ use Rattle.recipe.specs.declared.Record.the-variants as rec
 use Rattle.recipe.specs.declared.RecordAnswer.the-variants as read
 use Rattle.recipe.specs.Records.{recordAt, recordVerdict, readRecord, answered}
 use Rattle.opening.specs.Opening.{settingsAllowed, stageKindOf}
-use Rattle.pipeline.specs.laws.Opening.{no-way}
+use Rattle.pipeline.specs.laws.Opening.{zero-not-one}
 
 -- ---- what an answer tells of the questions
 pub read-accepted : (left : List ℕ) {r : Record} → readRecord left ≡ read.Record r → (recordVerdict left ≡ Accepted) × (recordAt left ≡ r)
@@ -25,14 +25,14 @@ read-accepted left {r} h = go (recordVerdict left) h
   where
     go : (v : Verdict) → answered v (recordAt left) ≡ read.Record r → (v ≡ Accepted) × (recordAt left ≡ r)
     go Accepted e = (refl, cc)
-    go (Refused x) e = no-way (cc)
+    go (Refused x) e = zero-not-one (cc)
 
 pub read-refused : (left : List ℕ) {x : Error} → readRecord left ≡ read.Refused x → recordVerdict left ≡ Refused x
 unfolding readRecord
 read-refused left {x} h = go (recordVerdict left) h
   where
     go : (v : Verdict) → answered v (recordAt left) ≡ read.Refused x → v ≡ Refused x
-    go Accepted e = no-way (cc)
+    go Accepted e = zero-not-one (cc)
     go (Refused y) e = cc
 
 -- the rate that leaves a stage is within its limit

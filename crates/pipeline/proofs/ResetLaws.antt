@@ -1,4 +1,4 @@
--- Laws of Reset.
+-- The format that leaves, and the cleared stages, one stage more. Assumes nothing.
 use mathlib.Core.Path.{_≡_, refl, sym, ap, ap₂, _∙_}
 use mathlib.Core.List.{List, [], _∷_, _++_, map}
 use Prim.Native.Nat.{ℕ, zero, suc, _+_, _≤_, _<_}

@@ -1,4 +1,4 @@
--- The format that leaves a chain, and reset (document 01, pipeline.rs). Assumes nothing. A chain of more than eight stages, which no call returns, is left as it is.
+-- The format that leaves a chain, and reset (document 01, pipeline.rs). A chain of more than eight stages, which no call returns, is left as it is. Definitions only.
 use mathlib.Core.Bool.{cond}
 use mathlib.Core.List.{List, [], _∷_, _++_, map}
 use lib.Dec.{leb}

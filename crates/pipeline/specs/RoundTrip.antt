@@ -1,4 +1,4 @@
--- A recipe that opens is written back unchanged, and what a chain writes opens as the same chain (document 01, 'The recipe'). Assumes nothing.
+-- A chain, and the stages that it was opened with (document 01, 'The recipe'). Definitions only.
 use mathlib.Core.Path.{_≡_}
 use mathlib.Core.Bool.{true}
 use mathlib.Core.List.{List}

@@ -1,4 +1,4 @@
--- Writing back: the bytes of a chain's recipe (document 01, 'The recipe' and 'Writing a recipe'). Assumes nothing.
+-- Writing a chain's recipe: its questions, what is written, and the paper's number and values (document 01, 'The recipe' and 'The questions'). Definitions only.
 use mathlib.Core.List.{List}
 use Prim.Native.Nat.{ℕ}
 use lib.Dec.{leb}

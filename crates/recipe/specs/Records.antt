@@ -1,4 +1,4 @@
--- The records of a recipe and the questions that their bytes are asked (document 01, 'The recipe' and 'The questions'). Assumes nothing.
+-- The records of a recipe and the questions that their bytes are asked (document 01, 'The recipe' and 'The questions'). Definitions only.
 use mathlib.Core.Bool.{Bool, _&&_}
 use mathlib.Core.List.{List, [], _∷_, _++_}
 use Prim.Native.Nat.{ℕ, _+_, _*_}

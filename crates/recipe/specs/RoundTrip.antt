@@ -1,4 +1,4 @@
--- What is written reads back, and what was read is written back (document 01, 'The recipe'). Assumes nothing.
+-- A record whose fields fit 32 bits. Definitions only.
 use mathlib.Core.List.{[], _∷_}
 use mir.Syntax.{w32}
 use mir.Val.{SFits}

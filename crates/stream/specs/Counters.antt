@@ -1,4 +1,4 @@
--- The counters after any calls (document 01, pipeline.rs). Assumes nothing.
+-- What the counters count in any calls (document 01, pipeline.rs). Definitions only.
 use mathlib.Core.Bool.{cond}
 use mathlib.Core.List.{List, [], _∷_}
 use Prim.Native.Nat.{ℕ, _+_}

@@ -1,4 +1,4 @@
--- What one call does to a chain and its output, by the stages' laws. Assumes nothing.
+-- A chain after one call, and the half that the last stage wrote to. Definitions only.
 use mathlib.Core.Path.{_≡_}
 use mathlib.Core.Bool.{cond}
 use mathlib.Core.List.{List}

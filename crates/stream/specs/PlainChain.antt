@@ -1,4 +1,4 @@
--- The plain chain (document 01, 'The whole stream'): each stage's definition on all that it has received since it was opened. Assumes nothing.
+-- The plain chain (document 01, 'The whole stream'): each stage's definition on all that it has received since it was opened. Definitions only.
 use mathlib.Core.List.{List, [], _∷_, map}
 use Prim.Native.Nat.{ℕ, suc}
 use lib.ListN.{take}

@@ -1,4 +1,4 @@
--- The questions that a block is asked (document 01, 'The questions'), of the stages that would then take frames in the plain chain. Assumes nothing.
+-- The questions that a block is asked (document 01, 'The questions'), of the stages that would then take frames in the plain chain. Definitions only.
 use mathlib.Core.List.{List, [], _∷_, _++_}
 use Prim.Native.Nat.{ℕ, _*_, _/_}
 use lib.Dec.{leb}

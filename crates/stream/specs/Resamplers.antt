@@ -1,4 +1,4 @@
--- What a resampler of unequal rates has received and delivered, in any place of a chain (document 01, 'The whole stream'). Assumes nothing.
+-- What a resampler of unequal rates has received and delivered, in any place of a chain (document 01, 'The whole stream'). Definitions only.
 use mathlib.Core.Path.{_≡_}
 use mathlib.Core.Logic.{_↔_}
 use mathlib.Core.List.{List, []}

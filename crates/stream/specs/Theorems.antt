@@ -15,7 +15,8 @@ use Rattle.pcm.specs.Formats.{formatAllowed}
 use Rattle.pcm.specs.Refusals.{ask, numberOf, roomVerdict}
 use Rattle.pipeline.specs.Opening.{asked, openStages, openedOf, openCall}
 use Rattle.stream.specs.Opened.{FreshlyOpened, kindsIn}
-use Rattle.stream.specs.laws.Opening.{not-accepted, stages-opened, stages-chain}
+use Rattle.pipeline.specs.laws.Opening.{zero-not-one}
+use Rattle.stream.specs.laws.Opening.{stages-opened, stages-chain}
 use Rattle.pcm.specs.Samples.{All, Bytes}
 use Rattle.stream.specs.Calls.{Call, Lent, runOf}
 use Rattle.stream.specs.Stream.{streamOf}
@@ -50,7 +51,7 @@ opened-chain f recipe h = go (formatAllowed f) refl h
     go : (t : Bool) → formatAllowed f ≡ t → openedOf f (asked (ask t InvalidFormat Accepted) (openStages 8 f recipe)) .verdict ≡ Accepted
         → FreshlyOpened (openedOf f (asked (ask t InvalidFormat Accepted) (openStages 8 f recipe)) .chain)
     go true e h = stages-chain f e (openStages 8 f recipe) (stages-opened 8 f recipe) h
-    go false e h = not-accepted (cc)
+    go false e h = zero-not-one (cc)
 
 -- a chain that opening accepted is one that the block call takes
 pub opened-is-legal : (f : PcmFormat) (recipe : List ℕ) → openCall f recipe .verdict ≡ Accepted → legal (openCall f recipe .chain) ≡ true

@@ -1,4 +1,4 @@
--- Demand 3 (document 01, 'The whole stream'): a single claim about every list of calls on a freshly opened chain. Assumes nothing.
+-- Demand 3 (document 01, 'The whole stream'): a single claim about every list of calls on a freshly opened chain. Definitions only.
 use mathlib.Core.Path.{_≡_}
 use mathlib.Core.List.{List, _∷_}
 use Prim.Native.Nat.{ℕ}

@@ -29,7 +29,7 @@ use Rattle.stage.specs.Rooms.{Held, Serves}
 use Rattle.stage.specs.laws.Serving.{gain-asks, gain-serves, stereo-asks, stereo-serves, mono-asks, mono-serves, dc-asks, dc-serves, biquad-asks, biquad-serves, resample-asks, resample-serves, resample-fits}
 use Rattle.turns.specs.Turns.{Halves, sourceAt, targetAt, TurnAsks, TurnDoes, GainAsks, GainDoes, StereoAsks, StereoDoes, MonoAsks, MonoDoes, ResampleAsks, ResampleDoes, DcDoes, BiquadDoes, Takes, Makes}
 
-module _ (f : PcmFormat) (s : Stage) (i n : ℕ) (block : List ℕ) (h : Halves) (w : TurnAsks i n block h (Takes f s)) where
+module _ (f : PcmFormat) (s : Stage) {i n : ℕ} {block : List ℕ} {h : Halves} (w : TurnAsks i n block h (Takes f s)) where
   abbrev source : List ℕ
   source = sourceAt i n block h
 

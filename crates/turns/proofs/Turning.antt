@@ -11,7 +11,7 @@ use Rattle.turns.specs.Turns.{halves, evenSource, TurnAsks, TurnDoes}
 front-there : (n : ℕ) (l : List ℕ) → length (take n l) ≡ n → n ≤ length l
 front-there n l e = omega (arith, simp length-take at e)
 
-module _ (i n : ℕ) (block a b : List ℕ) (Asks : List ℕ → List ℕ → Type 0) (w : TurnAsks i n block (halves a b) Asks) where
+module _ {i n : ℕ} {block a b : List ℕ} {Asks : List ℕ → List ℕ → Type 0} (w : TurnAsks i n block (halves a b) Asks) where
   pub even-reads : i % 2 ≡ 0 → (i ≡ 0 → ⊥) → n ≤ length b
   even-reads e z = front-there n b (rw (ne-eqb i 0 z, eq-eqb (i % 2) 0 e) at (w .reads))
 
@@ -27,7 +27,7 @@ module _ (i n : ℕ) (block a b : List ℕ) (Asks : List ℕ → List ℕ → Ty
   pub odd-asks : (i % 2 ≡ 0 → ⊥) → Asks (take n a) b
   odd-asks e = rw (ne-eqb i 0 (not-first e), ne-eqb (i % 2) 0 e) at (w .asks)
 
-module _ (i n : ℕ) (block a b after : List ℕ) (Does : List ℕ → List ℕ → List ℕ → Type 0) where
+module _ {i n : ℕ} {block a b after : List ℕ} {Does : List ℕ → List ℕ → List ℕ → Type 0} where
   pub even-does : i % 2 ≡ 0 → (source : List ℕ) → source ≡ evenSource i n block b → Does source a after → TurnDoes i n block (halves a b) (halves after b) Does
   even-does e source h d = record { does = rw (eq-eqb (i % 2) 0 e) (rw h at d); other = rw (eq-eqb (i % 2) 0 e) }
 

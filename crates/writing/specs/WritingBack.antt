@@ -1,4 +1,4 @@
--- Writing back: the bytes of a chain's recipe (document 01, 'The recipe' and 'Writing a recipe'). Assumes nothing.
+-- The bytes of stages' records, one after another (document 01, 'The recipe'). Definitions only.
 use mathlib.Core.List.{List, [], _∷_, _++_}
 use Prim.Native.Nat.{ℕ}
 use Rattle.stage.specs.declared.StageKind.{StageKind}

@@ -1,4 +1,4 @@
--- Laws of Beforehand.
+-- What the walk that asks finds for all stages: the frames and the format that leave, and the largest room against the first short. Assumes nothing.
 use mathlib.Core.Path.{_≡_, refl, sym, ap, ap₂, _∙_}
 use mathlib.Core.Bool.{Bool, true, false, cond, _&&_}
 use mathlib.Core.List.{List, [], _∷_}

@@ -1,4 +1,4 @@
--- Laws of the definitions in Bounds. Assumes nothing.
+-- The parts of a legal chain; no stage is reached by more frames than fit; halves of the largest room hold every stage's. Assumes nothing.
 use mathlib.Core.Path.{_≡_, refl, subst}
 use mathlib.Core.Bool.{Bool, true, false, cond, _&&_}
 use mathlib.Core.List.{List, [], _∷_}

@@ -1,4 +1,4 @@
--- Laws of Scratch.
+-- `scratch_bytes`' figure goes by the kinds alone. Assumes nothing.
 use mathlib.Core.Path.{_≡_, refl, ap, ap₂, _∙_}
 use mathlib.Core.Bool.{Bool, true, false}
 use mathlib.Core.List.{List, [], _∷_}

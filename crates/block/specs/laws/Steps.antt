@@ -1,4 +1,4 @@
--- Laws of Steps.
+-- What an accepted block shows, the stages from stage i + 1 on, and the room question one stage at a time. Assumes nothing.
 use mathlib.Core.Path.{_≡_, refl, sym, ap₂, _∙_}
 use mathlib.Core.Bool.{true, false}
 use mathlib.Core.List.{List, [], _∷_}
@@ -35,7 +35,7 @@ pub drop-zero : {A : Type 0} (l : List A) → drop 0 l ≡ l
 drop-zero [] = refl
 drop-zero (x ∷ l) = refl
 
--- to all of them
+-- every question of a block was answered yes
 pub accepts : (c : Pipeline) (format : PcmFormat) (block a b : List ℕ) → blockVerdict c format (length block) (shorter a b) ≡ Accepted → Accepts c block a b
 unfolding blockVerdict
 accepts c format block a b h =
@@ -47,16 +47,6 @@ accepts c format block a b h =
     record { chain = p .0; whole = eqb-true _ _ (w .1); some = ltb-true _ _ (w .0); most = leb-true _ _ (r .0); room = s .1 }
 
 module _ (f : PcmFormat) (s : Stage) (rest : List Stage) where
-  -- ---- what stageSuits
-  pub suited-more : (g : PcmFormat) → stageSuits f (s .kind) (s .memory) ≡ true → g ≡ formatAfter f (s .kind) → suited f (s ∷ rest) ≡ suited g rest
-  unfolding suited
-  suited-more g h e = rw (h, e)
-
-  pub suited-no : stageSuits f (s .kind) (s .memory) ≡ false → suited f (s ∷ rest) ≡ false
-  unfolding suited
-  suited-no h = rw h
-
-  -- ---- room
   module _ (n shorter : ℕ) where
     pub room-none : n ≡ 0 → roomsVerdict f (s ∷ rest) n shorter ≡ Accepted
     unfolding roomsVerdict

@@ -1,4 +1,4 @@
--- Laws of the definitions in Turns. Assumes nothing.
+-- What holds of an accepted block after one stage's turn, before each stage and past the last. Assumes nothing.
 use mathlib.Core.Path.{_≡_}
 use mathlib.Core.Bool.{true}
 use mathlib.Core.List.{List, _++_}

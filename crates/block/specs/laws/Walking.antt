@@ -1,4 +1,4 @@
--- Laws of Walking.
+-- The walk that asks: its figures fit, it is legal where the stages suit, and what it finds is the block's verdict and `scratch_bytes`' figure. Assumes nothing.
 use mathlib.Core.Path.{_≡_, refl, sym, ap, ap₂, _∙_}
 use mathlib.Core.Bool.{Bool, true, false, cond, _&&_}
 use mathlib.Core.List.{List, [], _∷_}
@@ -321,21 +321,22 @@ after-same : (v a b : Verdict) → (v ≡ Accepted → a ≡ b) → roomAfter v 
 after-same Accepted a b h = h refl
 after-same (Refused e) a b h = refl
 
+-- what a walk begins with, of any number of stages and any halves
+record Begins (f : PcmFormat) (size : ℕ) (w : Walk) : Type 0 where
+  legal : w .legal ≡ true
+  format : w .format ≡ f
+  frames : w .frames ≡ blockFrames f size
+
+begins : (f : PcmFormat) (count size shorter : ℕ) → Begins f size (begun f count size shorter)
+unfolding begun
+begins f count size shorter = record { legal = refl; format = refl; frames = refl }
+
 module _ (c : Pipeline) (format : PcmFormat) (size shorter : ℕ) (head : headLegal (c .format) (c .count) ≡ true) (none : c .count ≡ 0 → stagesOf c ≡ []) (some : (c .count ≡ 0 → ⊥) → stagesOf c ≡ [] → ⊥) where
   abbrev pub start : Walk
   start = begun (c .format) (c .count) size shorter
 
-  start-legal : start .legal ≡ true
-  unfolding begun
-  start-legal = refl
-
-  start-format : start .format ≡ c .format
-  unfolding begun
-  start-format = refl
-
-  start-frames : start .frames ≡ blockFrames (c .format) size
-  unfolding begun
-  start-frames = refl
+  at-start : Begins (c .format) size start
+  at-start = begins (c .format) (c .count) size shorter
 
   start-short : start .short ≡ firstShort shorter 0 (copyRoom (c .count) (blockFrames (c .format) size * (c .format .channels * 2)))
   unfolding begun
@@ -376,15 +377,15 @@ module _ (c : Pipeline) (format : PcmFormat) (size shorter : ℕ) (head : headLe
           at : (t : Bool) → eqb (c .count) 0 ≡ t → roomsVerdict (c .format) (s ∷ l) (size / (c .format .channels * 2)) shorter ≡ shortVerdict (walked Block shorter start (s ∷ l) .short)
           at true k = cc (none (eqb-true _ _ k))
           at false k =
-              sym (walked-short shorter start (s ∷ l) start-legal (ap (λ (f : PcmFormat). suited f (s ∷ l)) start-format ∙ ap (suited (c .format)) (sym e) ∙ u)
+              sym (walked-short shorter start (s ∷ l) (at-start .legal) (ap (λ (f : PcmFormat). suited f (s ∷ l)) (at-start .format) ∙ ap (suited (c .format)) (sym e) ∙ u)
               ∙ ap (λ (n : ℕ). shortThen n (roomsVerdict (start .format) (s ∷ l) (start .frames) shorter)) (moved (eqb-false _ _ k))
-              ∙ ap (λ (f : PcmFormat). roomsVerdict f (s ∷ l) (start .frames) shorter) start-format
-              ∙ ap (λ (n : ℕ). roomsVerdict (c .format) (s ∷ l) n shorter) (start-frames ∙ frames-are (c .format) size h))
+              ∙ ap (λ (f : PcmFormat). roomsVerdict f (s ∷ l) (start .frames) shorter) (at-start .format)
+              ∙ ap (λ (n : ℕ). roomsVerdict (c .format) (s ∷ l) n shorter) ((at-start .frames) ∙ frames-are (c .format) size h))
 
   pub verdict-is : verdictFrom (c .format) format size (walked Block shorter start (stagesOf c)) ≡ blockVerdict c format size shorter
   unfolding verdictFrom blockVerdict sizedFrom
   verdict-is =
-      sym (asked-is c size head Block shorter start _ start-legal start-format
+      sym (asked-is c size head Block shorter start _ (at-start .legal) (at-start .format)
       ∙ after-same (sizedFrom (c .format) size (walked Block shorter start (stagesOf c))) _ _
       (λ h. ap (ask (sameFormat (c .format) format) Unsupported) (room-is (suited-here h) (sized-here h))))
     where
@@ -393,7 +394,7 @@ module _ (c : Pipeline) (format : PcmFormat) (size shorter : ℕ) (head : headLe
       parts false e = (cc, cc)
 
       suited-here : sizedFrom (c .format) size (walked Block shorter start (stagesOf c)) ≡ Accepted → suited (c .format) (stagesOf c) ≡ true
-      suited-here h = sym (walked-legal Block shorter start (stagesOf c) start-legal ∙ ap (λ (f : PcmFormat). suited f (stagesOf c)) start-format) ∙ parts (walked Block shorter start (stagesOf c) .legal) h .0
+      suited-here h = sym (walked-legal Block shorter start (stagesOf c) (at-start .legal) ∙ ap (λ (f : PcmFormat). suited f (stagesOf c)) (at-start .format)) ∙ parts (walked Block shorter start (stagesOf c) .legal) h .0
 
       sized-here : sizedFrom (c .format) size (walked Block shorter start (stagesOf c)) ≡ Accepted → sizeVerdict (c .format) size ≡ Accepted
       sized-here h = parts (walked Block shorter start (stagesOf c) .legal) h .1
@@ -424,17 +425,8 @@ module _ (c : Pipeline) (size : ℕ) (head : headLegal (c .format) (c .count) �
   abbrev first : Walk
   first = begun (c .format) 0 size size
 
-  first-legal : first .legal ≡ true
-  unfolding begun
-  first-legal = refl
-
-  first-format : first .format ≡ c .format
-  unfolding begun
-  first-format = refl
-
-  first-frames : first .frames ≡ blockFrames (c .format) size
-  unfolding begun
-  first-frames = refl
+  at-first : Begins (c .format) size first
+  at-first = begins (c .format) 0 size size
 
   first-largest : first .largest ≡ blockFrames (c .format) size * (c .format .channels * 2)
   unfolding begun
@@ -449,13 +441,13 @@ module _ (c : Pipeline) (size : ℕ) (head : headLegal (c .format) (c .count) �
   unfolding sizedFrom
   figure-is h =
       let k = parts (walked AnyState size first (stagesOf c) .legal) h in
-      let u : suited (first .format) (stagesOf c) ≡ true = sym (walked-legal AnyState size first (stagesOf c) first-legal) ∙ k .0 in
-      walked-largest size first (stagesOf c) first-legal u
-      ∙ ap₂ larger (first-largest ∙ bytes-are (c .format) size (k .1)) (ap₂ (λ (f : PcmFormat) (n : ℕ). largestRoom f (stagesOf c) n) first-format (first-frames ∙ frames-are (c .format) size (k .1)))
+      let u : suited (first .format) (stagesOf c) ≡ true = sym (walked-legal AnyState size first (stagesOf c) (at-first .legal)) ∙ k .0 in
+      walked-largest size first (stagesOf c) (at-first .legal) u
+      ∙ ap₂ larger (first-largest ∙ bytes-are (c .format) size (k .1)) (ap₂ (λ (f : PcmFormat) (n : ℕ). largestRoom f (stagesOf c) n) (at-first .format) ((at-first .frames) ∙ frames-are (c .format) size (k .1)))
 
   pub scratch-is : scratchAnswer (sizedFrom (c .format) size (walked AnyState size first (stagesOf c))) (2 * walked AnyState size first (stagesOf c) .largest) ≡ scratchBytes c size
   unfolding scratchBytes
   scratch-is =
       same-figure (sizedFrom (c .format) size (walked AnyState size first (stagesOf c))) _ _ (λ h. ap (λ (n : ℕ). 2 * n) (figure-is h))
       ∙ ap (λ (v : Verdict). scratchAnswer v (scratchFigure c size))
-      (sym (asked-is c size head AnyState size first Accepted first-legal first-format ∙ after-none (sizedFrom (c .format) size (walked AnyState size first (stagesOf c)))))
+      (sym (asked-is c size head AnyState size first Accepted (at-first .legal) (at-first .format) ∙ after-none (sizedFrom (c .format) size (walked AnyState size first (stagesOf c)))))

@@ -21,8 +21,8 @@ use Rattle.opening.specs.declared.StageAnswer.the-variants as answer
 use Rattle.pipeline.specs.Opening.{opened, refused, front, nextKind, afterNext, openStages}
 use Rattle.opening.specs.Opening.{settingsAllowed, recordSuits, stageVerdict, stageKindOf, stageAnswerOf, stageAnswer}
 
-pub no-way : {X : Type 0} → _≡_ {A = ℕ} 0 1 → X
-no-way e = absurd (let z : ⊥ = omega arith in z)
+pub zero-not-one : {X : Type 0} → _≡_ {A = ℕ} 0 1 → X
+zero-not-one e = absurd (let z : ⊥ = omega arith in z)
 
 module _ (more : ℕ) (f : PcmFormat) (r : Record) where
   pub stage-accepted : {k : StageKind} → stageAnswer more f r ≡ answer.Stage k → (stageVerdict more f r ≡ Accepted) × (stageKindOf f r ≡ k)
@@ -30,13 +30,13 @@ module _ (more : ℕ) (f : PcmFormat) (r : Record) where
     where
       go : (v : Verdict) → stageAnswerOf v (stageKindOf f r) ≡ answer.Stage k → (v ≡ Accepted) × (stageKindOf f r ≡ k)
       go Accepted e = (refl, cc)
-      go (Refused x) e = no-way (cc)
+      go (Refused x) e = zero-not-one (cc)
 
   pub stage-refused : {x : Error} → stageAnswer more f r ≡ answer.Refused x → stageVerdict more f r ≡ Refused x
   stage-refused {x} h = go (stageVerdict more f r) h
     where
       go : (v : Verdict) → stageAnswerOf v (stageKindOf f r) ≡ answer.Refused x → v ≡ Refused x
-      go Accepted e = no-way (cc)
+      go Accepted e = zero-not-one (cc)
       go (Refused y) e = cc
 
   -- a stage that is taken is among the first eight, within its limits, and suits the format

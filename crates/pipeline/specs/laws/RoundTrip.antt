@@ -1,4 +1,4 @@
--- Laws of the definitions in RoundTrip. Assumes nothing.
+-- A recipe that opens is written back unchanged, stage by stage. Assumes nothing.
 use mathlib.Core.Path.{_≡_, refl, sym, ap, ap₂, _∙_}
 use mathlib.Core.Bool.{Bool, true, false}
 use mathlib.Core.List.{List, [], _∷_, _++_}
@@ -26,13 +26,10 @@ use Rattle.pipeline.specs.declared.Pipeline.{Pipeline}
 use Rattle.pipeline.specs.declared.Opened.{Opened}
 use Rattle.pipeline.specs.Opening.{Stages, opened, refused, front, nextKind, afterNext, openStages, unusedStage, chainOf, openCall}
 use Rattle.opening.specs.Opening.{stageVerdict, stageKindOf}
-use Rattle.pipeline.specs.laws.Opening.{open-none, open-short, open-unfit, open-next, stage-fits}
+use Rattle.pipeline.specs.laws.Opening.{zero-not-one, open-none, open-short, open-unfit, open-next, stage-fits}
 use Rattle.writing.specs.WritingBack.{recordOfStage, recipeOf}
 use Rattle.pipeline.specs.WritingBack.{stagesOf}
 use Rattle.pipeline.specs.RoundTrip.{OpenedFrom}
-
-no-way : {X : Type 0} → _≡_ {A = ℕ} 0 1 → X
-no-way e = absurd (let z : ⊥ = omega arith in z)
 
 -- a stage keeps its record, whatever its bits
 pub record-kept : (f : PcmFormat) (r : Record) → recordOfStage (stageKindOf f r) ≡ r
@@ -56,7 +53,7 @@ pub record First (more : ℕ) (f : PcmFormat) (left : List ℕ) (ss : List Stage
 -- the first stage, and the others
 split-front : (s : Stage) (x : Stages) (ss : List Stage) → front s x ≡ opened ss → (rest : List Stage) × (ss ≡ s ∷ rest) × (x ≡ opened rest)
 split-front s (opened rest) ss e = (rest, cc, refl)
-split-front s (refused x) ss e = no-way (cc)
+split-front s (refused x) ss e = zero-not-one (cc)
 
 first-record : (more : ℕ) (f : PcmFormat) (left : List ℕ) (ss : List Stage) → 0 < length left → openStages more f left ≡ opened ss → First more f left ss
 first-record more f left ss h e = by-record (recordVerdict left) refl
@@ -70,11 +67,11 @@ first-record more f left ss h e = by-record (recordVerdict left) refl
 
     by-stage : (v : Verdict) → recordVerdict left ≡ Accepted → stageVerdict more f (recordAt left) ≡ v → First more f left ss
     by-stage Accepted a b = taken more refl a b
-    by-stage (Refused x) a b = let o = open-unfit f more left h a b in no-way (cc)
+    by-stage (Refused x) a b = let o = open-unfit f more left h a b in zero-not-one (cc)
 
     by-record : (v : Verdict) → recordVerdict left ≡ v → First more f left ss
     by-record Accepted a = by-stage (stageVerdict more f (recordAt left)) a refl
-    by-record (Refused x) a = let o = open-short f more left h a in no-way (cc)
+    by-record (Refused x) a = let o = open-short f more left h a in zero-not-one (cc)
 
 -- ---- stages that were opened: none, or a first and others
 by-first : (more : ℕ) (f : PcmFormat) (left : List ℕ) (ss : List Stage) → openStages more f left ≡ opened ss → ((left ≡ []) × (ss ≡ [])) ⊎ First more f left ss
@@ -111,8 +108,8 @@ opened-recipe (suc more) f left ss b e =
 pub recipe-of-kinds : (a b : List Stage) → kindsOf a ≡ kindsOf b → recipeOf a ≡ recipeOf b
 unfolding recipeOf
 recipe-of-kinds [] [] e = refl
-recipe-of-kinds [] (t ∷ b) e = no-way (cc)
-recipe-of-kinds (s ∷ a) [] e = no-way (cc)
+recipe-of-kinds [] (t ∷ b) e = zero-not-one (cc)
+recipe-of-kinds (s ∷ a) [] e = zero-not-one (cc)
 recipe-of-kinds (s ∷ a) (t ∷ b) e =
     let k : s .kind ≡ t .kind = cc in
     let m : kindsOf a ≡ kindsOf b = cc in
@@ -129,8 +126,8 @@ unfolding openCall
 opened-from f bytes c e = by-format (formatAllowed f) refl (openStages 8 f bytes) refl
   where
     by-format : (b : Bool) → formatAllowed f ≡ b → (x : Stages) → openStages 8 f bytes ≡ x → OpenedFrom f bytes c
-    by-format false h x q = let v = ap (λ (o : Opened). o .verdict) (rw h at e) in no-way (cc)
-    by-format true h (refused y) q = let v = ap (λ (o : Opened). o .verdict) (rw (h, q) at e) in no-way (cc)
+    by-format false h x q = let v = ap (λ (o : Opened). o .verdict) (rw h at e) in zero-not-one (cc)
+    by-format true h (refused y) q = let v = ap (λ (o : Opened). o .verdict) (rw (h, q) at e) in zero-not-one (cc)
     by-format true h (opened ss) q = record { allowed = h; stages = ss; opens = q; chain-is = sym (ap (λ (o : Opened). o .chain) (rw (h, q) at e)) }
 
 pub count-is : (f : PcmFormat) (ss : List Stage) → chainOf f ss .count ≡ length ss

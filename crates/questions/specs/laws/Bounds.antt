@@ -1,4 +1,4 @@
--- Laws of Bounds.
+-- The room that a stage wants fits a word. Assumes nothing.
 use Prim.Native.Nat.{ℕ, _+_, _-_, _*_, _≤_}
 use native.Mathlib.Nat.{mul-le-mul, div-le-self}
 use native.Mathlib.Omega.{arith}

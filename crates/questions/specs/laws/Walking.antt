@@ -1,4 +1,4 @@
--- Laws of Walking.
+-- The figures of the walk fit, and the walk one stage at a time. Assumes nothing.
 use mathlib.Core.Path.{_≡_, refl}
 use mathlib.Core.Bool.{Bool, true, false, cond}
 use mathlib.Core.List.{List, _∷_}

@@ -8,6 +8,9 @@ use borrow.Author.Tests.{le-leb, lt-leb, eq-eqb, ne-eqb, not-true, not-false}
 use lib.Dec.{leb, eqb}
 use mathlib.Core.List.{List}
 use lib.ListN.{length}
+use Rattle.pcm.specs.declared.Error.the-variants.{ShortRecord}
+use Rattle.pcm.specs.declared.Verdict.the-variants.{Accepted}
+use Rattle.pcm.specs.Refusals.{ask}
 use Rattle.recipe.specs.Records.{recordVerdict, known, fieldCount, lengthAt, kindAt}
 use Rattle.recipe.proofs.Records.{few-fields}
 use Rattle.recipe.proofs.record_question.Statement.{statement}
@@ -61,29 +64,19 @@ returns-4 c =
     ne-eqb _ _ (λ q. c .if4 .taken (e .before .before .before .before .before .get-u16 .ensures ∙ q ∙ sym (due e))) in
     rw (four (e .before .before .before .before .before .before), two (e .before .before .before .before), told (e .before), n)
 
-returns-5 : tie.Need-returns-5
+-- all but the last question answered yes
+but-last : (c : tie.Else4) → let left = leftOf (c .before .before .before .before .before .before .before .before .before) in
+    recordVerdict left ≡ ask (leb (2 + lengthAt left) (length left)) ShortRecord Accepted
 unfolding recordVerdict
-returns-5 c =
-    let e = c .before .before in
-    rw (
-      four (e .before .before .before .before .before .before),
-      two (e .before .before .before .before),
-      told (e .before),
-      length-due (c .before),
-      rw (e .before .before .before .before .before .get-u16 .ensures) at (lt-leb _ _ (c .if5 .taken)),
-    )
+but-last c =
+    let e = c .before in
+    rw (four (e .before .before .before .before .before .before), two (e .before .before .before .before), told (e .before), length-due c)
+
+returns-5 : tie.Need-returns-5
+returns-5 c = let e = c .before .before in rw (but-last (c .before), rw (e .before .before .before .before .before .get-u16 .ensures) at (lt-leb _ _ (c .if5 .taken)))
 
 returns-6 : tie.Need-returns-6
-unfolding recordVerdict
-returns-6 c =
-    let e = c .before .before in
-    rw (
-      four (e .before .before .before .before .before .before),
-      two (e .before .before .before .before),
-      told (e .before),
-      length-due (c .before),
-      rw (e .before .before .before .before .before .get-u16 .ensures) at (le-leb _ _ (c .if5 .left)),
-    )
+returns-6 c = let e = c .before .before in rw (but-last (c .before), rw (e .before .before .before .before .before .get-u16 .ensures) at (le-leb _ _ (c .if5 .left)))
 
 pub record-question-spec : {M : Type 1} → statement M
 record-question-spec = tie.close (tie.spec

@@ -1,6 +1,6 @@
--- Laws of the definitions in RoundTrip. Assumes nothing.
+-- What is written reads back, and what was read is written back, field by field. Assumes nothing.
 use mathlib.Core.Path.{_≡_, refl, sym, ap, ap₂, _∙_}
-use mathlib.Core.Bool.{true, false}
+use mathlib.Core.Bool.{true}
 use mathlib.Core.List.{List, [], _∷_, _++_}
 use Prim.Native.Nat.{ℕ, zero, suc, _+_, _*_, _≤_, _<_}
 use native.Mathlib.Omega.{arith}
@@ -61,44 +61,31 @@ record-again (rec.DcBlock corner) f = refl
 record-again (rec.Biquad rate bits) f = refl
 
 -- ---- what was read is written back
-absurd-known : false ≡ true → ⊥
-absurd-known e = let z : _≡_ {A = ℕ} 0 1 = cc in omega arith
-
-no-seventh : (k : ℕ) → known (suc (suc (suc (suc (suc (suc (suc k))))))) ≡ true → ⊥
-no-seventh k h = let m = known-within (suc (suc (suc (suc (suc (suc (suc k))))))) h in omega (arith, m .1)
+-- what holds of each of the six kinds holds of a known one
+by-kind : (P : ℕ → Type 0) → P 1 → P 2 → P 3 → P 4 → P 5 → P 6 → (k : ℕ) → known k ≡ true → P k
+by-kind P p1 p2 p3 p4 p5 p6 zero h = absurd (let m = known-within zero h in omega arith)
+by-kind P p1 p2 p3 p4 p5 p6 (suc zero) h = p1
+by-kind P p1 p2 p3 p4 p5 p6 (suc (suc zero)) h = p2
+by-kind P p1 p2 p3 p4 p5 p6 (suc (suc (suc zero))) h = p3
+by-kind P p1 p2 p3 p4 p5 p6 (suc (suc (suc (suc zero)))) h = p4
+by-kind P p1 p2 p3 p4 p5 p6 (suc (suc (suc (suc (suc zero))))) h = p5
+by-kind P p1 p2 p3 p4 p5 p6 (suc (suc (suc (suc (suc (suc zero)))))) h = p6
+by-kind P p1 p2 p3 p4 p5 p6 (suc (suc (suc (suc (suc (suc (suc k))))))) h = absurd (let m = known-within (suc (suc (suc (suc (suc (suc (suc k))))))) h in omega arith)
 
 kind-again : (k : ℕ) (fields : List ℕ) → known k ≡ true → kindNumber (recordOf k fields) ≡ k
 unfolding recordOf
-kind-again zero fields h = absurd (absurd-known h)
-kind-again (suc zero) fields h = refl
-kind-again (suc (suc zero)) fields h = refl
-kind-again (suc (suc (suc zero))) fields h = refl
-kind-again (suc (suc (suc (suc zero)))) fields h = refl
-kind-again (suc (suc (suc (suc (suc zero))))) fields h = refl
-kind-again (suc (suc (suc (suc (suc (suc zero)))))) fields h = refl
-kind-again (suc (suc (suc (suc (suc (suc (suc k))))))) fields h = absurd (no-seventh k h)
+kind-again k fields h = by-kind (λ (k : ℕ). kindNumber (recordOf k fields) ≡ k) refl refl refl refl refl refl k h
 
 count-again : (k : ℕ) (l : List ℕ) → known k ≡ true → length (fieldsOf (recordOf k l)) ≡ fieldCount k
 unfolding recordOf
-count-again zero l h = absurd (absurd-known h)
-count-again (suc zero) l h = refl
-count-again (suc (suc zero)) l h = refl
-count-again (suc (suc (suc zero))) l h = refl
-count-again (suc (suc (suc (suc zero)))) l h = refl
-count-again (suc (suc (suc (suc (suc zero))))) l h = refl
-count-again (suc (suc (suc (suc (suc (suc zero)))))) l h = refl
-count-again (suc (suc (suc (suc (suc (suc (suc k))))))) l h = absurd (no-seventh k h)
+count-again k l h = by-kind (λ (k : ℕ). length (fieldsOf (recordOf k l)) ≡ fieldCount k) refl refl refl refl refl refl k h
 
 fields-again : (k : ℕ) (l : List ℕ) → known k ≡ true → Words (words (fieldCount k) l) → fieldsOf (recordOf k (words (fieldCount k) l)) ≡ words (fieldCount k) l
 unfolding recordOf
-fields-again zero l h f = absurd (absurd-known h)
-fields-again (suc zero) l h f = ap (λ (x : ℕ). x ∷ []) (ofZ-toZ {w = w32} (record { fits = f .0 }))
-fields-again (suc (suc zero)) l h f = refl
-fields-again (suc (suc (suc zero))) l h f = refl
-fields-again (suc (suc (suc (suc zero)))) l h f = refl
-fields-again (suc (suc (suc (suc (suc zero))))) l h f = refl
-fields-again (suc (suc (suc (suc (suc (suc zero)))))) l h f = refl
-fields-again (suc (suc (suc (suc (suc (suc (suc k))))))) l h f = absurd (no-seventh k h)
+fields-again k l h =
+    by-kind (λ (k : ℕ). Words (words (fieldCount k) l) → fieldsOf (recordOf k (words (fieldCount k) l)) ≡ words (fieldCount k) l)
+    (λ f. ap (λ (x : ℕ). x ∷ []) (ofZ-toZ {w = w32} (record { fits = f .0 })))
+    (λ f. refl) (λ f. refl) (λ f. refl) (λ f. refl) (λ f. refl) k h
 
 module _ (left : List ℕ) (w : Whole left) where
   count-read : length (fieldsOf (recordAt left)) ≡ fieldCount (kindAt left)

@@ -1,4 +1,4 @@
--- Laws of AfterCalls.
+-- What holds between any two calls: the output so far and the stages are those of the stream so far. Assumes nothing.
 use mathlib.Core.Path.{_≡_, refl, sym, ap, ap₂, _∙_, subst}
 use mathlib.Core.Bool.{true}
 use mathlib.Core.List.{List, [], _∷_, _++_, append-nil, map}

@@ -1,4 +1,4 @@
--- Laws of Afterwards.
+-- The stages in their sound state have the kinds that they were opened with. Assumes nothing.
 use mathlib.Core.Path.{_≡_, refl, ap}
 use mathlib.Core.List.{List, [], _∷_}
 use Rattle.pcm.specs.Frames.{Frame}

@@ -1,4 +1,4 @@
--- Laws of Opening.
+-- What opening accepts is a chain as `FreshlyOpened` says. Assumes nothing.
 use mathlib.Core.Path.{_≡_, refl, sym, ap, ap₂, _∙_, subst}
 use mathlib.Core.Bool.{Bool, true, _&&_}
 use mathlib.Core.List.{List, [], _∷_, _++_, map}
@@ -25,13 +25,10 @@ use Rattle.recipe.specs.Records.{recordAt, recordVerdict}
 use Rattle.pipeline.specs.declared.Pipeline.{Pipeline}
 use Rattle.pipeline.specs.Opening.{Stages, opened, refused, asked, front, nextKind, afterNext, openStages, unusedStage, chainOf, openedOf}
 use Rattle.opening.specs.Opening.{settingsAllowed, stageVerdict, stageKindOf, recordSuits}
-use Rattle.pipeline.specs.laws.Opening.{stage-fits}
+use Rattle.pipeline.specs.laws.Opening.{zero-not-one, stage-fits}
 use Rattle.block.specs.BlockCall.{suited}
 use Rattle.stream.specs.Opened.{RatesReduced, FreshlyOpened}
 use Rattle.stream.specs.laws.Opened.{chainAsOpened, opened-with}
-
-pub not-accepted : {X : Type 0} → _≡_ {A = ℕ} 0 1 → X
-not-accepted e = absurd (let z : ⊥ = omega arith in z)
 
 and-true : {a b : Bool} → a ≡ true → b ≡ true → (a && b) ≡ true
 and-true p q = ap₂ _&&_ p q
@@ -128,4 +125,4 @@ module _ (f : PcmFormat) (allowed : formatAllowed f ≡ true) where
 
   pub stages-chain : (s : Stages) → UnlessRefused 8 f s → openedOf f s .verdict ≡ Accepted → FreshlyOpened (openedOf f s .chain)
   stages-chain (opened ss) v h = chain-opened ss v
-  stages-chain (refused e) v h = not-accepted (cc)
+  stages-chain (refused e) v h = zero-not-one (cc)
