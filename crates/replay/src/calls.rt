@@ -8,9 +8,7 @@ use crate::output;
 use block::Answer;
 use cookbook::BiquadKind;
 use cookbook::Coefficients;
-use cookbook::DesignAnswer;
 use dc_block::DcBlock;
-use dc_block::PoleAnswer;
 use gain::Gain;
 use pcm::Error;
 use pcm::PcmFormat;
@@ -289,10 +287,7 @@ pub fn max_output_frames() -> bool {
     }
     let made = LinearResampler::new(words::get_u32(&s, 0), words::get_u32(&s, 4));
     let answer = most_frames(made, input::get_u64(&s, 8) as usize);
-    match answer {
-        MaxFrames::Frames(n) => valued(0, n as u64),
-        MaxFrames::Refused(e) => valued(e.number(), 0),
-    }
+    valued(answer.number(), answer.value() as u64);
     true
 }
 
@@ -301,17 +296,9 @@ pub fn pole() -> bool {
     if !input::filled(&mut s) {
         return false;
     }
-    let answer = DcBlock::pole(get_float(&s, 0), words::get_u32(&s, 4));
-    match answer {
-        PoleAnswer::Pole(r) => {
-            output::short(0);
-            output::float(r);
-        }
-        PoleAnswer::Refused(e) => {
-            output::short(e.number());
-            output::word(0);
-        }
-    }
+    let t = DcBlock::pole(get_float(&s, 0), words::get_u32(&s, 4)).told();
+    output::short(t.number);
+    output::float(t.pole);
     true
 }
 
@@ -339,21 +326,6 @@ fn coefficients(k: Coefficients) {
     output::float(k.a2);
 }
 
-fn designed(answer: DesignAnswer) {
-    match answer {
-        DesignAnswer::Designed(k) => {
-            output::short(0);
-            coefficients(k);
-        }
-        DesignAnswer::Refused(e) => {
-            output::short(e.number());
-            output::word(0);
-            output::long(0);
-            output::long(0);
-        }
-    }
-}
-
 pub fn design() -> bool {
     let mut s = [0u8; 41];
     if !input::filled(&mut s) {
@@ -366,8 +338,9 @@ pub fn design() -> bool {
     let sine = double_of_bits(input::get_u64(&s, 17));
     let cosine = double_of_bits(input::get_u64(&s, 25));
     let a = double_of_bits(input::get_u64(&s, 33));
-    let answer = Coefficients::design(kind, words::get_u32(&s, 13), sine, cosine, a);
-    designed(answer);
+    let t = Coefficients::design(kind, words::get_u32(&s, 13), sine, cosine, a).told();
+    output::short(t.number);
+    coefficients(t.coefficients);
     true
 }
 

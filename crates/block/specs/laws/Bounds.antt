@@ -152,7 +152,7 @@ wanted-room : (f : PcmFormat) (k : StageKind) (n m : ℕ) → framesWanted k n �
 unfolding roomWanted
 wanted-room f k n m w = mul-le-mul-right (formatAfter f k .channels * 2) w
 
--- in any state: halves of the largestRoom room hold every stage's
+-- in any state: halves of the largest room hold every stage's
 pub room-suffices : (f : PcmFormat) (l : List Stage) (n m short : ℕ) → suited f l ≡ true → n ≤ m → largestRoom f l m ≤ short → roomsVerdict f l n short ≡ Accepted
 unfolding roomsVerdict largestRoom
 room-suffices f [] n m short u h k = refl

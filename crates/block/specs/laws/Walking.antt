@@ -130,7 +130,7 @@ module _ (q : Question) (shorter : ℕ) where
           ap (λ (v : Walk). walked q shorter v l .legal) (step-suits q shorter w s h e) ∙ i ∙ ap (λ (f : PcmFormat). suited f l) (further-format q shorter w s)
       go false e i = walked-illegal q shorter (stepped q shorter w s) l (ap (λ (v : Walk). v .legal) (step-unsuited q shorter w s h e) ∙ illegal-is (w .format))
 
-  -- a stage that stageSuits is passed
+  -- a stage that suits is passed
   pub walked-cons : (w : Walk) (s : Stage) (l : List Stage) → w .legal ≡ true → suited (w .format) (s ∷ l) ≡ true → walked q shorter w (s ∷ l) ≡ walked q shorter (further q shorter w s) l
   unfolding walked
   walked-cons w s l h u = ap (λ (v : Walk). walked q shorter v l) (step-suits q shorter w s h (suited-first (w .format) s l u))
@@ -251,7 +251,7 @@ module _ (shorter : ℕ) where
       ∙ walked-short (further Block shorter w s) l (further-legal Block shorter w s) (ap (λ (f : PcmFormat). suited f l) (further-format Block shorter w s) ∙ suited-rest (w .format) s l u)
       ∙ further-short w s l ∙ step-short shorter w s l (eqb (w .short) 0) refl
 
--- ---- the largestRoom room
+-- ---- the largest room
 module _ (shorter : ℕ) where
   further-largest : (w : Walk) (s : Stage) (l : List Stage) → larger (further AnyState shorter w s .largest) (largestRoom (further AnyState shorter w s .format) l (further AnyState shorter w s .frames))
       ≡ larger (larger (w .largest) (roomWanted (w .format) (s .kind) (w .frames))) (largestRoom (formatAfter (w .format) (s .kind)) l (framesWanted (s .kind) (w .frames)))
@@ -350,7 +350,7 @@ module _ (c : Pipeline) (format : PcmFormat) (size shorter : ℕ) (head : headLe
   unfolding firstShort
   first-room room = refl
 
-  -- the room question, where the size is legal and every stage stageSuits
+  -- the room question, where the size is legal and every stage suits
   room-is : suited (c .format) (stagesOf c) ≡ true → sizeVerdict (c .format) size ≡ Accepted
       → halvesVerdict (c .format) (stagesOf c) size shorter ≡ shortVerdict (walked Block shorter start (stagesOf c) .short)
   unfolding walked

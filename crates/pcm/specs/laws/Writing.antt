@@ -1,4 +1,4 @@
--- Laws of Writing.
+-- A block written to the front of a buffer, byte by byte and sample by sample. Assumes nothing.
 use mathlib.Core.Path.{_≡_, refl, sym, ap, _∙_, subst}
 use mathlib.Core.List.{List, [], _∷_, _++_, append-assoc}
 use Prim.Native.Nat.{ℕ, suc, _+_, _≤_, _<_}
