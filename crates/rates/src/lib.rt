@@ -137,9 +137,9 @@ impl LinearResampler {
         requires { ⌜ (0 < self .«in_rate») × (frames * self .«out_rate» + self .«in_rate» < 2 ^ 64) ⌝ }
         ensures { λ r. ⌜ r ≡ roomFrames (self .«in_rate») (self .«out_rate») frames ⌝ }
     {
-        let wanted = frames * (self.out_rate as usize);
-        let divisor = self.in_rate as usize;
-        (wanted + (divisor - 1)) / divisor + 1
+        let output = self.out_rate as usize;
+        let input = self.in_rate as usize;
+        (frames * output + (input - 1)) / input + 1
     }
 
     // The room wanted for a block of at most 8,192 frames, in frames.
