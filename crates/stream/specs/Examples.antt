@@ -46,23 +46,26 @@ opened-f : openCall mono8000 recipe ≡ record { verdict = Accepted; chain = dou
 unfolding openCall openStages recordVerdict stageVerdict recordOf recordBytes rateAllowed channelsAllowed formatAllowed ratesAllowed
 opened-f = refl
 
-chain-f : openCall mono8000 recipe .chain ≡ doubling
+abbrev opened : Pipeline
+opened = openCall mono8000 recipe .chain
+
+chain-f : opened ≡ doubling
 chain-f = ap (λ (x : Opened). x .chain) opened-f
 
--- ---- cut after frame 0 the first call is 'nothing yet'; the second delivers 0, 50, 100, 75
+-- ---- cut after frame 0 the first call is 'nothing yet', and the second delivers 0, 50, 100, 75
 abbrev lentHalf : List ℕ
 lentHalf = 7 ∷ 7 ∷ 7 ∷ 7 ∷ 7 ∷ 7 ∷ 7 ∷ 7 ∷ 7 ∷ 7 ∷ []
 
 abbrev played : Pipeline → List ℕ → Result
 played c bytes = blockCall c mono8000 0 bytes lentHalf lentHalf
 
-first-call-f : played (openCall mono8000 recipe .chain) (0 ∷ 0 ∷ []) .answer ≡ NothingYet
-unfolding blockCall blockVerdict legal suited stageSuits ratesSuit ratesAllowed rateAllowed channelsAllowed formatAllowed roomsVerdict roomWanted framesWanted framesOut resampledCount carriedCount roomFrames accepted bytesOf framesOf sampleOf lowOf highOf formatLeaving stageOut stageNext resampled stateAfter carriedOutputs outputsFrom carriedState among firstAt outputAt blend interpolated reduced gcd largestDivisor chainOf
-first-call-f = ap (λ (c : Pipeline). played c (0 ∷ 0 ∷ []) .answer) chain-f
-
-second-call-f : callOutput (played (played (openCall mono8000 recipe .chain) (0 ∷ 0 ∷ []) .chain) (100 ∷ 0 ∷ 50 ∷ 0 ∷ [])) ≡ 0 ∷ 0 ∷ 50 ∷ 0 ∷ 100 ∷ 0 ∷ 75 ∷ 0 ∷ []
+cut-f : (played opened (0 ∷ 0 ∷ []) .answer ≡ NothingYet)
+    × (callOutput (played (played opened (0 ∷ 0 ∷ []) .chain) (100 ∷ 0 ∷ 50 ∷ 0 ∷ [])) ≡ 0 ∷ 0 ∷ 50 ∷ 0 ∷ 100 ∷ 0 ∷ 75 ∷ 0 ∷ [])
 unfolding blockCall blockVerdict legal suited stageSuits ratesSuit ratesAllowed rateAllowed channelsAllowed formatAllowed roomsVerdict roomWanted framesWanted framesOut resampledCount carriedCount roomFrames accepted passed written bytesOf framesOf sampleOf lowOf highOf formatLeaving stageOut stageNext resampled stateAfter carriedOutputs outputsFrom carriedState among firstAt outputAt blend interpolated reduced gcd largestDivisor chainOf
-second-call-f = ap (λ (c : Pipeline). callOutput (played (played c (0 ∷ 0 ∷ []) .chain) (100 ∷ 0 ∷ 50 ∷ 0 ∷ []))) chain-f
+cut-f = (
+  ap (λ (c : Pipeline). played c (0 ∷ 0 ∷ []) .answer) chain-f,
+  ap (λ (c : Pipeline). callOutput (played (played c (0 ∷ 0 ∷ []) .chain) (100 ∷ 0 ∷ 50 ∷ 0 ∷ []))) chain-f,
+)
 
 -- ---- `whole-stream` at work
 abbrev call : List ℕ → Call
@@ -75,17 +78,17 @@ calls = call (9 ∷ 0 ∷ 9 ∷ 0 ∷ []) ∷ reset ∷ call (0 ∷ 0 ∷ []) �
 abbrev frames : List Frame
 frames = map (λ (x : ℕ). pos x ∷ []) (0 ∷ 100 ∷ 50 ∷ [])
 
-stream-f : streamOf (openCall mono8000 recipe .chain) calls ≡ frames
+stream-f : streamOf opened calls ≡ frames
 unfolding plainVerdict plainRoom plainStage resampledWhole wholeOutputs outputAt blend interpolated reduced gcd largestDivisor framesWanted roomWanted roomFrames framesOf sampleOf rateAllowed channelsAllowed formatAllowed chainOf
 stream-f = ap (λ (c : Pipeline). streamOf c calls) chain-f
 
-whole-f : WholeStream (openCall mono8000 recipe .chain) frames (runOf (openCall mono8000 recipe .chain) calls)
+whole-f : WholeStream opened frames (runOf opened calls)
 whole-f = rw stream-f at (whole-stream mono8000 recipe (ap (λ (x : Opened). x .verdict) opened-f) calls (all-lent calls refl))
 
 -- 0, 50, 100, 75
-plain-f : bytesOf (plainOut (kindsIn (openCall mono8000 recipe .chain)) frames) ≡ 0 ∷ 0 ∷ 50 ∷ 0 ∷ 100 ∷ 0 ∷ 75 ∷ 0 ∷ []
+plain-f : bytesOf (plainOut (kindsIn opened) frames) ≡ 0 ∷ 0 ∷ 50 ∷ 0 ∷ 100 ∷ 0 ∷ 75 ∷ 0 ∷ []
 unfolding plainOut plainStage resampledWhole wholeOutputs outputAt blend interpolated reduced gcd largestDivisor bytesOf lowOf highOf chainOf
 plain-f = ap (λ (c : Pipeline). bytesOf (plainOut (kindsIn c) frames)) chain-f
 
-output-f : runOf (openCall mono8000 recipe .chain) calls .joined ≡ 0 ∷ 0 ∷ 50 ∷ 0 ∷ 100 ∷ 0 ∷ 75 ∷ 0 ∷ []
+output-f : runOf opened calls .joined ≡ 0 ∷ 0 ∷ 50 ∷ 0 ∷ 100 ∷ 0 ∷ 75 ∷ 0 ∷ []
 output-f = whole-f .output ∙ plain-f

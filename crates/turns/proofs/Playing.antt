@@ -1,21 +1,16 @@
 -- A turn by the stage's kind: what the kind's own function asks, and that what it does is the stage's turn. Assumes nothing.
 use mathlib.Core.Path.{_≡_, sym, subst}
 use mathlib.Core.List.{List}
-use Prim.Native.Nat.{ℕ, _*_, _/_, _%_, _≤_}
-use lib.IntN.{natAbs}
+use Prim.Native.Nat.{ℕ, _*_, _/_, _≤_}
 use lib.ListN.{length}
 use Rattle.pcm.specs.declared.PcmFormat.{PcmFormat}
 use Rattle.filters.specs.declared.FilterMemory.{FilterMemory}
 use Rattle.pcm.specs.Samples.{Samples}
-use Rattle.pcm.specs.Frames.{framesOf, written}
-use Rattle.filters.specs.Filters.{FilterBlock, FilteredBlock}
+use Rattle.pcm.specs.Frames.{framesOf}
+use Rattle.filters.specs.Filters.{FilterBlock}
 use Rattle.gain.specs.declared.Gain.{Gain}
-use Rattle.gain.specs.Gain.{scaledBytes}
-use Rattle.channels.specs.Channels.{stereoBytes, monoBytes}
 use Rattle.dc_block.specs.declared.DcBlock.{DcBlock}
-use Rattle.dc_block.specs.DcBlock.{dcTick}
 use Rattle.biquad.specs.declared.Biquad.{Biquad}
-use Rattle.biquad.specs.Recurrence.{biquadTick}
 use Rattle.rates.specs.declared.LinearResampler.{LinearResampler}
 use Rattle.rates.specs.declared.ResamplerState.{ResamplerState}
 use Rattle.resample.specs.declared.Resampled.{Resampled}

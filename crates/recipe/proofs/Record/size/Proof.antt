@@ -1,9 +1,5 @@
 -- `recipe::Record::size` meets its contract. Assumes nothing.
 use borrow.Author.Needs.{needs}
-use mathlib.Core.Path.{_≡_}
-use Prim.Native.Nat.{ℕ}
-use lib.ListN.{length}
-use Rattle.recipe.specs.declared.Record.{Record}
 use Rattle.recipe.specs.Records.{recordBytes}
 use Rattle.recipe.proofs.Record.size.Statement.{statement}
 use Rattle.recipe.proofs.Record.size.Tie as tie
