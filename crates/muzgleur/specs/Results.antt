@@ -16,7 +16,7 @@ use Rattle.pipeline.specs.WritingBack.{stagesOf}
 use Rattle.block.specs.declared.Told.{Told}
 use Rattle.block.specs.declared.Scratch.{Scratch}
 use Rattle.block.specs.BlockCall.{Result}
-use Rattle.block.specs.Told.{answerTold, scratchValued}
+use Rattle.block.specs.Told.{answerTold, scratchTold}
 use Rattle.chain_words.specs.Kept.{withSound}
 use Rattle.chain_words.specs.Layout.{wordsOf, stands, chainOfWords}
 use Rattle.muzgleur.specs.declared.CounterResult.{CounterResult}
@@ -64,4 +64,4 @@ abbrev pub formatResult : PcmFormat → Format
 formatResult f = record { rate = f .rate; channels = f .channels }
 
 abbrev pub scratchResult : Scratch → ScratchResult
-scratchResult s = record { number = scratchValued s .number; value = scratchValued s .value }
+scratchResult s = record { number = scratchTold s .number; value = scratchTold s .value }

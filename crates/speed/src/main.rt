@@ -3,7 +3,6 @@
 ghost use Prim.Native.Nat.{_+_, _<_, _≤_};
 ghost use lib.ListN.{length};
 use block::Answer;
-use block::Half;
 use pcm::PcmFormat;
 use pipeline::Pipeline;
 use std::num::wrapping_add_u64;
@@ -174,7 +173,7 @@ fn play(chain: Pipeline, times: u32, size: usize, length: usize)
         Run { chain, tally },
         times,
         size,
-        block::output(&sound, &sound, Half::A, length),
+        block::front(&sound, length),
         &mut a,
         &mut b,
     );
