@@ -13,10 +13,11 @@ use Rattle.pipeline.specs.declared.Pipeline.{Pipeline}
 use Rattle.pipeline.specs.Reset.{formatLeaving}
 use Rattle.pipeline.specs.WritingBack.{stagesOf}
 use Rattle.turns.specs.Turns.{halves}
-use Rattle.block.specs.declared.Answer.the-variants as answer
-use Rattle.block.specs.declared.Scratch.{Scratch}
-use Rattle.block.specs.BlockCall.{Result, sizeAsked, blockVerdict, shorter, lastHalf, outputBytes, accepted, concluded, blockCall, scratchAnswer, scratchFigure, scratchBytes}
-use Rattle.block.specs.Told.{soundTold, silentTold, answerTold, toldOfBlock, blockTold, scratchTold}
+use Rattle.answers.specs.declared.Answer.the-variants as answer
+use Rattle.answers.specs.declared.Scratch.{Scratch}
+use Rattle.block.specs.BlockCall.{Result, sizeAsked, blockVerdict, shorter, outputBytes, accepted, concluded, blockCall, scratchAnswer, scratchFigure, scratchBytes}
+use Rattle.answers.specs.Answers.{lastHalf, soundTold, silentTold, answerTold, scratchTold}
+use Rattle.block.specs.Told.{toldOfBlock, blockTold}
 
 module _ (c : Pipeline) (format : PcmFormat) (t : ℕ) (block a b : List ℕ) where
   abbrev leaving : PcmFormat

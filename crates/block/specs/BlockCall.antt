@@ -1,9 +1,9 @@
 -- The block call (document 01, pipeline.rs and 'The questions'): from a chain and a call to all that is there afterwards. Definitions only.
 use mathlib.Core.Bool.{Bool, true, cond, _&&_}
 use mathlib.Core.List.{List, [], _∷_, _++_}
-use Prim.Native.Nat.{ℕ, zero, suc, _+_, _*_, _/_, _%_}
-use lib.Dec.{eqb, leb, ltb}
-use lib.ListN.{length, take, drop}
+use Prim.Native.Nat.{ℕ, suc, _*_, _/_, _%_}
+use lib.Dec.{eqb, leb}
+use lib.ListN.{length, drop}
 use Rattle.pcm.specs.declared.PcmFormat.{PcmFormat}
 use Rattle.pcm.specs.declared.Error.the-variants.{InvalidFormat, Unsupported, BufferTooSmall, InvalidGeometry, TooManyFrames}
 use Rattle.pcm.specs.declared.Verdict.{Verdict}
@@ -16,16 +16,15 @@ use Rattle.stage.specs.Stages.{stageOut, formatAfter}
 use Rattle.stage.specs.Rooms.{stageSuits, framesOut, framesWanted, roomWanted}
 use Rattle.pipeline.specs.declared.Pipeline.{Pipeline}
 use Rattle.pipeline.specs.WritingBack.{stagesOf}
-use Rattle.block.specs.declared.Half.{Half}
-use Rattle.block.specs.declared.Half.the-variants as half
-use Rattle.block.specs.declared.Answer.{Answer}
-use Rattle.block.specs.declared.Answer.the-variants as answer
-use Rattle.block.specs.declared.Scratch.{Scratch}
-use Rattle.block.specs.declared.Scratch.the-variants as scratch
+use Rattle.answers.specs.declared.Answer.{Answer}
+use Rattle.answers.specs.declared.Answer.the-variants as answer
+use Rattle.answers.specs.declared.Scratch.{Scratch}
+use Rattle.answers.specs.declared.Scratch.the-variants as scratch
 use Rattle.block.specs.Chain.{chainOut, chainNext}
 use Rattle.pipeline.specs.Reset.{formatLeaving}
 use Rattle.questions.specs.Walk.{wholeFrames, sameFormat, larger}
 use Rattle.turns.specs.Turns.{Halves}
+use Rattle.answers.specs.Answers.{lastHalf, countedUp, outputAnswer, shorterOf}
 
 -- each stage suits the format that reaches it
 unfoldable pub suited : PcmFormat → List Stage → Bool
@@ -80,25 +79,12 @@ abbrev pub halvesAfter : List Stage → List Frame → List ℕ → Halves → H
 halvesAfter [] xs bytes h = put 0 bytes h
 halvesAfter (s ∷ rest) xs bytes h = passed 0 (s ∷ rest) xs h
 
--- the half that the last stage writes to
-abbrev pub lastHalf : ℕ → Half
-lastHalf zero = half.A
-lastHalf (suc n) = cond (eqb (n % 2) 0) half.A half.B
-
--- a counter grows by one and stays at 2^64 - 1
-abbrev pub countedUp : ℕ → ℕ
-countedUp n = cond (ltb n 18446744073709551615) (n + 1) n
-
 -- what a call leaves behind
 pub record Result : Type 0 where
   pub chain : Pipeline
   pub answer : Answer
   pub a : List ℕ
   pub b : List ℕ
-
--- 'nothing yet' where no bytes come out; else the format, half and length of the output; the timestamp is copied through
-abbrev pub outputAnswer : PcmFormat → ℕ → Half → ℕ → Answer
-outputAnswer format timestamp side len = cond (eqb len 0) answer.NothingYet (answer.Output format timestamp side len)
 
 -- `blocks` grows with each accepted call, `empty_blocks` with each 'nothing yet'
 abbrev pub countedChain : Pipeline → List Stage → ℕ → Pipeline
@@ -121,9 +107,6 @@ accepted c timestamp bytes h = record {
   a = halvesAfter (stagesOf c) (framesOf (c .format .channels) bytes) bytes h .a;
   b = halvesAfter (stagesOf c) (framesOf (c .format .channels) bytes) bytes h .b;
 }
-
-abbrev pub shorterOf : ℕ → ℕ → ℕ
-shorterOf a b = cond (leb a b) a b
 
 abbrev pub shorter : List ℕ → List ℕ → ℕ
 shorter a b = shorterOf (length a) (length b)
@@ -153,11 +136,3 @@ scratchFigure c size = 2 * larger size (largestRoom (c .format) (stagesOf c) (si
 
 unfoldable pub scratchBytes : Pipeline → ℕ → Scratch
 scratchBytes c size = scratchAnswer (sizeAsked c size Accepted) (scratchFigure c size)
-
--- ---- the output as a part of the half that holds it, empty if the length given exceeds that half
-abbrev pub frontOf : ℕ → List ℕ → List ℕ
-frontOf n l = cond (leb n (length l)) (take n l) []
-
-abbrev pub outputOf : Half → ℕ → List ℕ → List ℕ → List ℕ
-outputOf half.A n a b = frontOf n a
-outputOf half.B n a b = frontOf n b

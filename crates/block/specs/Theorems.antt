@@ -13,7 +13,7 @@ use Rattle.pcm.specs.Refusals.{numberOf}
 use Rattle.stage.specs.declared.Stage.{Stage}
 use Rattle.stage.specs.Stages.{kindsOf}
 use Rattle.pipeline.specs.declared.Pipeline.{Pipeline}
-use Rattle.block.specs.declared.Scratch.the-variants as scratch
+use Rattle.answers.specs.declared.Scratch.the-variants as scratch
 use Rattle.block.specs.BlockCall.{suited, legal, sizeAsked, halvesVerdict, blockVerdict, largestRoom, scratchBytes}
 use Rattle.pipeline.specs.WritingBack.{stagesOf}
 use Rattle.questions.specs.Walk.{wholeFrames, sameFormat, larger}

@@ -1,14 +1,12 @@
 -- An accepted block, and the steps of the call: the copy where there are no stages, the next stage, the counter. Definitions only.
 use mathlib.Core.Path.{_≡_}
-use mathlib.Core.Bool.{true, cond}
+use mathlib.Core.Bool.{true}
 use mathlib.Core.List.{List}
-use Prim.Native.Nat.{ℕ, _+_, _*_, _/_, _%_, _≤_, _<_}
-use lib.Dec.{eqb}
+use Prim.Native.Nat.{ℕ, _*_, _/_, _%_, _≤_, _<_}
 use lib.ListN.{length}
 use Rattle.pcm.specs.declared.Verdict.the-variants.{Accepted}
-use Rattle.pcm.specs.Frames.{written}
 use Rattle.pipeline.specs.declared.Pipeline.{Pipeline}
-use Rattle.block.specs.BlockCall.{legal, halvesVerdict, shorter, countedUp}
+use Rattle.block.specs.BlockCall.{legal, halvesVerdict, shorter}
 use Rattle.pipeline.specs.WritingBack.{stagesOf}
 
 -- a block whose questions were all answered yes
@@ -18,15 +16,3 @@ pub record Accepts (c : Pipeline) (block a b : List ℕ) : Type 0 where
   pub some : 0 < length block
   pub most : length block / (c .format .channels * 2) ≤ 8192
   pub room : halvesVerdict (c .format) (stagesOf c) (length block) (shorter a b) ≡ Accepted
-
--- a counter that grows where no bytes came out
-abbrev pub countedIf : ℕ → ℕ → ℕ
-countedIf len n = cond (eqb len 0) (countedUp n) n
-
--- half a before the first stage: no stages, the block is copied to it
-abbrev pub unstaged : ℕ → List ℕ → List ℕ → List ℕ
-unstaged count block a = cond (eqb count 0) (written block a) a
-
--- after a stage that delivers 0 bytes no later one is run
-abbrev pub nextStage : ℕ → ℕ → ℕ → ℕ
-nextStage i count len = cond (eqb len 0) count (i + 1)

@@ -1,12 +1,12 @@
+pub mod Asking
 pub mod Beforehand
 pub mod Bounds
 pub mod Chain
-pub mod Scratch
-pub mod Steps
-pub mod Turns
-pub mod Walking
-pub mod Asking
 pub mod Concluding
 pub mod Counts
 pub mod Reaching
+pub mod Scratch
 pub mod Stages
+pub mod Steps
+pub mod Turns
+pub mod Walking

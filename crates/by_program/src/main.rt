@@ -1,5 +1,5 @@
 // Document 01, 'By program': what the calls answer. One line for each: what was asked, then 0 or the refusal's number, then bytes.
-use block::Answer;
+use answers::Answer;
 use pcm::PcmFormat;
 use pipeline::Pipeline;
 
@@ -106,7 +106,7 @@ fn longest() {
         b"8,192 frames",
         chain,
         format,
-        block::front(&sound, 16384),
+        answers::front(&sound, 16384),
         &mut a,
         &mut b,
     );
@@ -114,7 +114,7 @@ fn longest() {
         b"8,193 frames",
         chain,
         format,
-        block::front(&sound, 16386),
+        answers::front(&sound, 16386),
         &mut a,
         &mut b,
     );
@@ -126,7 +126,7 @@ fn stages(nine: &[u8]) {
         rate: 16000,
         channels: 2,
     };
-    opens(b"eight stages", format, block::front(nine, 64));
+    opens(b"eight stages", format, answers::front(nine, 64));
     opens(b"nine stages", format, nine);
 }
 

@@ -1,2 +1,2 @@
-mod Sums
 mod Channels
+mod Sums

@@ -1,6 +1,6 @@
 mod Fields
 mod HalfUp
 mod Nan
+mod Rounding
 mod Short
 mod Ties
-mod Rounding

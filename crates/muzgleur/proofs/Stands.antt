@@ -16,8 +16,8 @@ use Rattle.stage.specs.Stages.{stageClear, kindsOf}
 use Rattle.pcm.specs.laws.Tests.{both}
 use Rattle.pipeline.specs.declared.Pipeline.{Pipeline}
 use Rattle.pipeline.specs.Reset.{resetCall}
-use Rattle.block.specs.declared.Answer.{Answer}
-use Rattle.block.specs.declared.Answer.the-variants as answer
+use Rattle.answers.specs.declared.Answer.{Answer}
+use Rattle.answers.specs.declared.Answer.the-variants as answer
 use Rattle.pipeline.specs.WritingBack.{stagesOf}
 use Rattle.stage_words.specs.Layout.{word}
 use Rattle.stage_words.specs.Storable.{HeldMemory, Small}
@@ -26,7 +26,7 @@ use Rattle.chain_words.specs.Layout.{chainAt, stands, noChain, chainOfWords}
 use Rattle.chain_words.specs.laws.Chains.{stands-long}
 use Rattle.chain_words.specs.laws.Keeping.{KeptStage, walk-stands}
 use Rattle.word_block.specs.Words.{SettingsStay, WordsAfter}
-use Rattle.block.specs.Told.{answerTold}
+use Rattle.answers.specs.Answers.{answerTold}
 use Rattle.muzgleur.specs.Results.{soundWords}
 
 kinds-clear : (l : List Stage) → kindsOf (map stageClear l) ≡ kindsOf l

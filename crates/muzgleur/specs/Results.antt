@@ -13,10 +13,10 @@ use Rattle.pipeline.specs.declared.Pipeline.{Pipeline}
 use Rattle.pipeline.specs.declared.Opened.{Opened}
 use Rattle.pipeline.specs.Reset.{resetCall}
 use Rattle.pipeline.specs.WritingBack.{stagesOf}
-use Rattle.block.specs.declared.Told.{Told}
-use Rattle.block.specs.declared.Scratch.{Scratch}
+use Rattle.answers.specs.declared.Told.{Told}
+use Rattle.answers.specs.declared.Scratch.{Scratch}
 use Rattle.block.specs.BlockCall.{Result}
-use Rattle.block.specs.Told.{answerTold, scratchTold}
+use Rattle.answers.specs.Answers.{answerTold, scratchTold}
 use Rattle.chain_words.specs.Kept.{withSound}
 use Rattle.chain_words.specs.Layout.{wordsOf, stands, chainOfWords}
 use Rattle.muzgleur.specs.declared.CounterResult.{CounterResult}

@@ -7,7 +7,7 @@ ghost use Rattle.block.specs.BlockCall.{blockCall, scratchBytes};
 ghost use Rattle.chain_words.specs.Layout.{stands, chainOfWords};
 ghost use Rattle.word_block.specs.Words.{SettingsStay};
 ghost use Rattle.muzgleur.specs.Results.{openOutcome, blockOutcome, resetOutcome, counterResult, formatResult, scratchResult};
-use block::Told;
+use answers::Told;
 use pcm::PcmFormat;
 use pcm::Verdict;
 use pipeline::Pipeline;

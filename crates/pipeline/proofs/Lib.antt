@@ -1,4 +1,4 @@
-mod Opens
 mod OpeningLaws
+mod Opens
 mod ResetLaws
 mod Writing

@@ -1,6 +1,6 @@
 pub mod Opening
 pub mod Reset
-pub mod Theorems
 pub mod RoundTrip
+pub mod Theorems
 pub mod WritingBack
 pub mod laws

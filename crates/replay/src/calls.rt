@@ -5,7 +5,7 @@ use crate::Step;
 use crate::input;
 use crate::input::Count;
 use crate::output;
-use block::Answer;
+use answers::Answer;
 use cookbook::BiquadKind;
 use cookbook::Coefficients;
 use dc_block::DcBlock;
@@ -73,7 +73,7 @@ pub fn open(chain: Pipeline, buf: &mut [u8]) -> Step {
     let Count::Value(n) = recipe else {
         return ended(chain);
     };
-    let opened = Pipeline::open(format, block::front(buf, n));
+    let opened = Pipeline::open(format, answers::front(buf, n));
     let verdict = opened.verdict;
     let next = opened.chain;
     output::short(verdict.number());
@@ -94,9 +94,9 @@ fn part<'a>(answer: Answer, a: &'a [u8], b: &'a [u8]) -> &'a [u8] {
             timestamp: _,
             half,
             len,
-        } => block::output(a, b, half, len),
-        Answer::NothingYet => block::front(a, 0),
-        Answer::Refused(_) => block::front(a, 0),
+        } => answers::output(a, b, half, len),
+        Answer::NothingYet => answers::front(a, 0),
+        Answer::Refused(_) => answers::front(a, 0),
     }
 }
 
@@ -155,7 +155,7 @@ fn played_in(
         chain,
         format,
         timestamp,
-        block::front(sound, n),
+        answers::front(sound, n),
         &mut a[..m],
         &mut b[..k],
     )
@@ -268,7 +268,7 @@ pub fn mix(a: &mut [u8], b: &mut [u8], out: &mut [u8]) -> bool {
         return false;
     };
     let k = input::held(k, out);
-    mixed(block::front(a, n), block::front(b, m), &mut out[..k]);
+    mixed(answers::front(a, n), answers::front(b, m), &mut out[..k]);
     true
 }
 

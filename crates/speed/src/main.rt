@@ -2,7 +2,7 @@
 // the channels, the frames of a block and the number of passes, 32 bits each, low byte first, then the recipe.
 ghost use Prim.Native.Nat.{_+_, _<_, _≤_};
 ghost use lib.ListN.{length};
-use block::Answer;
+use answers::Answer;
 use pcm::PcmFormat;
 use pipeline::Pipeline;
 use std::num::wrapping_add_u64;
@@ -81,7 +81,7 @@ fn tallied<'a>(tally: Tally, first: bool, answer: Answer, a: &'a [u8], b: &'a [u
             half,
             len,
         } => {
-            let out = block::output(a, b, half, len);
+            let out = answers::output(a, b, half, len);
             let frames = wrapping_add_u64(tally.frames, frames_in(format, len));
             let checksum = end_summed(tally.checksum, out);
             if first {
@@ -173,7 +173,7 @@ fn play(chain: Pipeline, times: u32, size: usize, length: usize)
         Run { chain, tally },
         times,
         size,
-        block::front(&sound, length),
+        answers::front(&sound, length),
         &mut a,
         &mut b,
     );

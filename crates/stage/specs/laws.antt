@@ -1,4 +1,4 @@
+pub mod Places
 pub mod Rooms
 pub mod Serving
 pub mod Stages
-pub mod Places

@@ -1,6 +1,6 @@
-pub mod Storable
 pub mod HeldParts
 pub mod ReadBack
 pub mod Reading
 pub mod Runs
 pub mod Small
+pub mod Storable

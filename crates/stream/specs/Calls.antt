@@ -5,9 +5,10 @@ use Rattle.pcm.specs.declared.PcmFormat.{PcmFormat}
 use Rattle.pcm.specs.Samples.{Bytes}
 use Rattle.pipeline.specs.declared.Pipeline.{Pipeline}
 use Rattle.pipeline.specs.Reset.{resetCall}
-use Rattle.block.specs.declared.Answer.{Answer}
-use Rattle.block.specs.declared.Answer.the-variants as answer
-use Rattle.block.specs.BlockCall.{Result, blockCall, outputOf}
+use Rattle.answers.specs.declared.Answer.{Answer}
+use Rattle.answers.specs.declared.Answer.the-variants as answer
+use Rattle.block.specs.BlockCall.{Result, blockCall}
+use Rattle.answers.specs.Answers.{outputOf}
 
 -- every call brings its own block and halves, of any bytes and lengths: format, timestamp, block, half a, half b
 pub data Call : Type 0 where

@@ -7,8 +7,8 @@ use Rattle.pcm.specs.declared.Verdict.{Verdict}
 use Rattle.pcm.specs.declared.Verdict.the-variants.{Accepted, Refused}
 use Rattle.pcm.specs.Frames.{Frame}
 use Rattle.pipeline.specs.declared.Pipeline.{Pipeline}
-use Rattle.block.specs.declared.Answer.{Answer}
-use Rattle.block.specs.declared.Answer.the-variants as answer
+use Rattle.answers.specs.declared.Answer.{Answer}
+use Rattle.answers.specs.declared.Answer.the-variants as answer
 use Rattle.block.specs.BlockCall.{shorter, blockCall}
 use Rattle.stream.specs.Calls.{Call, block, reset, Run, afterCall}
 use Rattle.stream.specs.Opened.{kindsIn}

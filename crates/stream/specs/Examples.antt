@@ -21,7 +21,7 @@ use Rattle.pipeline.specs.declared.Pipeline.{Pipeline}
 use Rattle.pipeline.specs.declared.Opened.{Opened}
 use Rattle.pipeline.specs.Opening.{openStages, chainOf, openCall}
 use Rattle.pipeline.specs.Reset.{formatLeaving}
-use Rattle.block.specs.declared.Answer.the-variants.{NothingYet}
+use Rattle.answers.specs.declared.Answer.the-variants.{NothingYet}
 use Rattle.block.specs.BlockCall.{suited, legal, roomsVerdict, blockVerdict, passed, accepted, Result, blockCall}
 use Rattle.stream.specs.Calls.{Call, block, reset, callOutput, runOf}
 use Rattle.stream.specs.Opened.{kindsIn}

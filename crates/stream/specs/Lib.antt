@@ -1,4 +1,3 @@
-pub mod Theorems
 pub mod Calls
 pub mod Counters
 pub mod Examples
@@ -8,5 +7,6 @@ pub mod PlainChain
 pub mod PlainRoom
 pub mod Resamplers
 pub mod Stream
+pub mod Theorems
 pub mod WholeStream
 pub mod laws

@@ -7,8 +7,8 @@ use lib.Dec.{eqb}
 use lib.ListN.{length, drop}
 use Rattle.stage.specs.declared.Stage.{Stage}
 use Rattle.pipeline.specs.declared.Pipeline.{Pipeline}
-use Rattle.block.specs.declared.Half.{Half}
-use Rattle.block.specs.declared.Half.the-variants as half
+use Rattle.answers.specs.declared.Half.{Half}
+use Rattle.answers.specs.declared.Half.the-variants as half
 use Rattle.turns.specs.Turns.{Halves}
 use Rattle.block.specs.BlockCall.{Result}
 use Rattle.pipeline.specs.WritingBack.{stagesOf}

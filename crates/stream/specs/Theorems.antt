@@ -32,7 +32,7 @@ use Rattle.writing.specs.WritingBack.{recipeOf}
 use Rattle.pipeline.specs.WritingBack.{writeVerdict, writeCall, stagesOf}
 use Rattle.pipeline.specs.laws.RoundTrip.{recipe-of-kinds}
 use Rattle.pipeline.specs.Theorems.{recipe-kept}
-use Rattle.block.specs.declared.Scratch.the-variants as scratch
+use Rattle.answers.specs.declared.Scratch.the-variants as scratch
 use Rattle.block.specs.BlockCall.{legal, blockVerdict, scratchBytes}
 use Rattle.block.specs.laws.Bounds.{legal-parts}
 use Rattle.block.specs.Theorems.{scratch-suffices}

@@ -15,10 +15,11 @@ use Rattle.stage.specs.declared.SoundMemory.{SoundMemory}
 use Rattle.stage.specs.Stages.{stageNext, formatAfter}
 use Rattle.stage.specs.Rooms.{Serves}
 use Rattle.pipeline.specs.declared.Pipeline.{Pipeline}
-use Rattle.block.specs.declared.Answer.{Answer}
+use Rattle.answers.specs.declared.Answer.{Answer}
 use Rattle.turns.specs.Turns.{Halves, halves, sourceAt, TurnAsks, TurnDoes, Takes}
-use Rattle.block.specs.BlockCall.{countedUp, lastHalf, outputAnswer, accepted, shorterOf, shorter}
-use Rattle.block.specs.Turns.{Accepts, countedIf, unstaged, nextStage}
+use Rattle.answers.specs.Answers.{countedUp, lastHalf, outputAnswer, shorterOf, countedIf, unstaged, nextStage}
+use Rattle.block.specs.BlockCall.{accepted, shorter}
+use Rattle.block.specs.Turns.{Accepts}
 use Rattle.block.specs.laws.Turns.{Ended}
 use Rattle.stage.specs.laws.Places.{noStage}
 use Rattle.block.specs.laws.Stages.{withStages, Plays, turn-asks, stored, at-end, plays-first, copy-room, length-first}

@@ -10,14 +10,15 @@ use Rattle.pcm.specs.declared.Error.the-variants.{InvalidFormat}
 use Rattle.pcm.specs.declared.Verdict.{Verdict}
 use Rattle.pcm.specs.declared.Verdict.the-variants.{Accepted, Refused}
 use Rattle.pipeline.specs.declared.Pipeline.{Pipeline}
-use Rattle.block.specs.declared.Answer.{Answer}
-use Rattle.block.specs.declared.Answer.the-variants as answer
-use Rattle.block.specs.declared.Scratch.the-variants as scratch
+use Rattle.answers.specs.declared.Answer.{Answer}
+use Rattle.answers.specs.declared.Answer.the-variants as answer
+use Rattle.answers.specs.declared.Scratch.the-variants as scratch
 use Rattle.questions.specs.declared.Question.{Question}
 use Rattle.questions.specs.declared.Question.the-variants.{Block, AnyState}
 use Rattle.questions.specs.declared.Walk.{Walk}
 use Rattle.turns.specs.Turns.{Halves}
-use Rattle.block.specs.BlockCall.{Result, legal, blockVerdict, shorter, lastHalf, outputBytes, accepted, scratchAnswer, scratchBytes}
+use Rattle.block.specs.BlockCall.{Result, legal, blockVerdict, shorter, outputBytes, accepted, scratchAnswer, scratchBytes}
+use Rattle.answers.specs.Answers.{lastHalf}
 use Rattle.pipeline.specs.WritingBack.{stagesOf}
 use Rattle.pipeline.specs.Reset.{formatLeaving}
 use Rattle.block.specs.laws.Bounds.{legal-parts}

@@ -5,15 +5,16 @@ ghost use mathlib.Core.Bool.{true};
 ghost use Prim.Native.Nat.{_≤_};
 ghost use lib.ListN.{length, take};
 ghost use lib.Seq.{sets};
-ghost use Rattle.block.specs.BlockCall.{countedUp, blockCall, accepted, blockVerdict, scratchBytes};
+ghost use Rattle.answers.specs.Answers.{countedUp, countedIf};
+ghost use Rattle.block.specs.BlockCall.{blockCall, accepted, blockVerdict, scratchBytes};
 ghost use Rattle.turns.specs.Turns.{halves};
-ghost use Rattle.block.specs.Turns.{countedIf, Accepts};
+ghost use Rattle.block.specs.Turns.{Accepts};
 ghost use Rattle.questions.specs.Walk.{walked};
 ghost use Rattle.block.specs.laws.Asking.{Asks};
 ghost use Rattle.chain_words.specs.Layout.{counterWords, counterAt, chainAt, stands, chainOfWords};
 ghost use Rattle.word_block.specs.Words.{SettingsStay, WordsAfter, Walked};
-use block::Answer;
-use block::Scratch;
+use answers::Answer;
+use answers::Scratch;
 use pcm::Error;
 use pcm::PcmFormat;
 use pcm::Verdict;
@@ -59,8 +60,8 @@ fn count_block(words: &mut [u32], len: usize)
     requires { ⌜ 152 ≤ length (now words) ⌝ }
     ensures { λ _. ⌜ now (words .exit) ≡ sets (now (words .entry)) 3 (counterWords (countedUp (counterAt (now (words .entry)) 3)) (countedIf len (counterAt (now (words .entry)) 5))) ⌝ }
 {
-    let blocks = block::count_up(chain_words::counter_at(words, 3));
-    let empty_blocks = block::count_empty(chain_words::counter_at(words, 5), len);
+    let blocks = answers::count_up(chain_words::counter_at(words, 3));
+    let empty_blocks = answers::count_empty(chain_words::counter_at(words, 5), len);
     chain_words::put_counters(words, blocks, empty_blocks);
 }
 
@@ -71,7 +72,7 @@ fn play(words: &mut [u32], timestamp: u64, sound: &[u8], a: &mut [u8], b: &mut [
 {
     let own = chain_words::format_of(words);
     let count = chain_words::count_of(words);
-    block::copy_unstaged(count, sound, a);
+    answers::copy_unstaged(count, sound, a);
     let mut reaching = own;
     let mut len = sound.len();
     let mut i: usize = 0;
@@ -84,10 +85,10 @@ fn play(words: &mut [u32], timestamp: u64, sound: &[u8], a: &mut [u8], b: &mut [
         chain_words::put_held_at(words, i, kind, memory);
         len = t.len;
         reaching = stage::format_after(reaching, kind);
-        i = block::next_stage(i, count, len);
+        i = answers::next_stage(i, count, len);
     }
     count_block(words, len);
-    block::answered(reaching, timestamp, count, len)
+    answers::answered(reaching, timestamp, count, len)
 }
 
 // The block call. The output, where there is one, stands at the front of the half named, and the words stand for the chain afterwards.
@@ -102,7 +103,7 @@ pub fn process(
 ) -> Answer
     ensures { λ r. ⌜ (record { chain = chainOfWords (now (words .exit)); answer = r; a = now (a .exit); b = now (b .exit) } ≡ blockCall (chainOfWords (now (words .entry))) format timestamp (now (sound .entry)) (now (a .entry)) (now (b .entry))) × WordsAfter r (now (words .entry)) (now (words .exit)) ⌝ }
 {
-    let shorter = block::shorter_of(a.len(), b.len());
+    let shorter = answers::shorter_of(a.len(), b.len());
     let verdict = asked(words, format, sound.len(), shorter);
     match verdict {
         Verdict::Accepted => play(words, timestamp, sound, a, b),

@@ -7,10 +7,11 @@ use Prim.Native.Nat.{ℕ}
 use lib.Dec.{eqb}
 use Rattle.pcm.specs.declared.PcmFormat.{PcmFormat}
 use Rattle.pipeline.specs.Reset.{resetCall}
-use Rattle.block.specs.BlockCall.{blockCall, frontOf}
+use Rattle.block.specs.BlockCall.{blockCall}
+use Rattle.answers.specs.Answers.{frontOf}
 use Rattle.stream.specs.Calls.{Call, block, reset}
 use Rattle.chain_words.specs.Layout.{chainOfWords}
-use Rattle.block.specs.declared.Told.{Told}
+use Rattle.answers.specs.declared.Told.{Told}
 use Rattle.muzgleur.specs.Results.{Outcome, blockOutcome, resetOutcome}
 
 -- the output that a program takes: where the outcome is 1, len bytes at the front of the half named

@@ -14,16 +14,17 @@ use Rattle.pcm.specs.Samples.{Bytes}
 use Rattle.pcm.specs.Frames.{framesOf, bytesOf}
 use Rattle.stage.specs.declared.Stage.{Stage}
 use Rattle.pipeline.specs.declared.Pipeline.{Pipeline}
-use Rattle.block.specs.declared.Half.{Half}
-use Rattle.block.specs.declared.Answer.{Answer}
-use Rattle.block.specs.declared.Answer.the-variants as answers
+use Rattle.answers.specs.declared.Half.{Half}
+use Rattle.answers.specs.declared.Answer.{Answer}
+use Rattle.answers.specs.declared.Answer.the-variants as answers
 use Rattle.block.specs.Chain.{chainOut, chainNext}
 use Rattle.pipeline.specs.Reset.{formatLeaving}
 use Rattle.turns.specs.Turns.{Halves, halves}
-use Rattle.block.specs.BlockCall.{blockVerdict, halvesAfter, shorter, countedUp, countedChain, outputAnswer, lastHalf, accepted, concluded, blockCall}
+use Rattle.block.specs.BlockCall.{blockVerdict, halvesAfter, shorter, countedChain, accepted, concluded, blockCall}
+use Rattle.answers.specs.Answers.{countedUp, outputAnswer, lastHalf, unstaged, countedIf}
 use Rattle.pipeline.specs.WritingBack.{stagesOf}
 use Rattle.questions.specs.Walk.{headLegal}
-use Rattle.block.specs.Turns.{Accepts, unstaged, countedIf}
+use Rattle.block.specs.Turns.{Accepts}
 use Rattle.block.specs.laws.Turns.{Ended}
 use Rattle.block.specs.laws.Stages.{withStages, halves-end}
 use Rattle.block.specs.laws.Walking.{head-illegal}

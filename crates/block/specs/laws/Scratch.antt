@@ -13,7 +13,7 @@ use Rattle.stage.specs.declared.Stage.{Stage}
 use Rattle.stage.specs.declared.StageKind.{StageKind}
 use Rattle.stage.specs.Stages.{kindsOf, formatAfter}
 use Rattle.stage.specs.Rooms.{framesWanted, roomWanted}
-use Rattle.block.specs.declared.Scratch.the-variants as scratch
+use Rattle.answers.specs.declared.Scratch.the-variants as scratch
 use Rattle.block.specs.BlockCall.{largestRoom, scratchAnswer}
 use Rattle.questions.specs.Walk.{larger}
 

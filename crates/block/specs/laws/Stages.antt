@@ -32,7 +32,8 @@ use Rattle.block.specs.BlockCall.{passed, shorter, halvesVerdict, halves
 use Rattle.pcm.specs.laws.Refusals.{ask-yes}
 use Rattle.block.specs.laws.Bounds.{legal-parts}
 use Rattle.block.specs.laws.Turns.{Turns, Ended, Reached}
-use Rattle.block.specs.Turns.{Accepts, unstaged, nextStage}
+use Rattle.block.specs.Turns.{Accepts}
+use Rattle.answers.specs.Answers.{unstaged, nextStage}
 use Rattle.block.specs.laws.Reaching.{Sized, positive, shorter-a, shorter-b, format-none, passed-none, turns-of, takes, next-reached, sized-out, stopped, ended, begun}
 use Rattle.stage.specs.laws.Places.{noStage}
 use Rattle.block.specs.laws.Counts.{no-stages, some-stages, all-stages, halves-some}

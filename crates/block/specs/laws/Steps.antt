@@ -1,6 +1,5 @@
 -- What an accepted block shows, the stages from stage i + 1 on, and the room question one stage at a time. Assumes nothing.
 use mathlib.Core.Path.{_≡_, refl, sym, ap₂, _∙_}
-use mathlib.Core.Bool.{true, false}
 use mathlib.Core.List.{List, [], _∷_}
 use Prim.Native.Nat.{ℕ, _+_, _*_, _/_, _≤_, _<_}
 use native.Mathlib.Numerals.{add-one}
@@ -15,9 +14,9 @@ use Rattle.pcm.specs.declared.Verdict.the-variants.{Accepted, Refused}
 use Rattle.stage.specs.declared.Stage.{Stage}
 use Rattle.stage.specs.Stages.{formatAfter}
 use Rattle.pcm.specs.laws.Tests.{both}
-use Rattle.stage.specs.Rooms.{stageSuits, framesOut, roomWanted}
+use Rattle.stage.specs.Rooms.{framesOut, roomWanted}
 use Rattle.pipeline.specs.declared.Pipeline.{Pipeline}
-use Rattle.block.specs.BlockCall.{legal, suited, roomsVerdict, blockVerdict, shorter}
+use Rattle.block.specs.BlockCall.{legal, roomsVerdict, blockVerdict, shorter}
 use Rattle.questions.specs.Walk.{wholeFrames, sameFormat}
 use Rattle.block.specs.Turns.{Accepts}
 use Rattle.pcm.specs.laws.Refusals.{ask-yes}

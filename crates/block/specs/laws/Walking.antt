@@ -23,7 +23,7 @@ use Rattle.questions.specs.declared.Question.{Question}
 use Rattle.questions.specs.declared.Question.the-variants.{Block, AnyState}
 use Rattle.questions.specs.declared.Due.{Due}
 use Rattle.questions.specs.declared.Walk.{Walk}
-use Rattle.block.specs.declared.Scratch.the-variants as scratch
+use Rattle.answers.specs.declared.Scratch.the-variants as scratch
 use Rattle.block.specs.BlockCall.{legal, suited, roomsVerdict, halvesVerdict, sizeAsked, blockVerdict, largestRoom, scratchAnswer, scratchFigure, scratchBytes}
 use Rattle.pipeline.specs.WritingBack.{stagesOf}
 use Rattle.questions.specs.Walk.{wholeFrames, sameFormat, larger, headLegal, sizeVerdict, blockFrames, dueOf, firstShort, roomOf, further, illegal, stepped, copyRoom, begun, walked, sizedFrom, roomAfter, verdictFrom}

@@ -19,9 +19,10 @@ use Rattle.pcm.specs.Frames.{Frame}
 use Rattle.pipeline.specs.declared.Pipeline.{Pipeline}
 use Rattle.pipeline.specs.Opening.{Stages, opened, refused, asked, openStages, chainOf, openedOf, openCall}
 use Rattle.pipeline.specs.Reset.{resetCall}
-use Rattle.block.specs.declared.Answer.{Answer}
-use Rattle.block.specs.declared.Answer.the-variants as answer
-use Rattle.block.specs.BlockCall.{blockVerdict, shorter, countedUp, outputBytes, accepted, concluded, blockCall}
+use Rattle.answers.specs.declared.Answer.{Answer}
+use Rattle.answers.specs.declared.Answer.the-variants as answer
+use Rattle.block.specs.BlockCall.{blockVerdict, shorter, outputBytes, accepted, concluded, blockCall}
+use Rattle.answers.specs.Answers.{countedUp}
 use Rattle.stream.specs.Calls.{Call, block, reset, Lent, Run, afterCall, afterCalls}
 use Rattle.stream.specs.Opened.{kindsIn, FreshlyOpened}
 use Rattle.stream.specs.PlainRoom.{plainVerdict}

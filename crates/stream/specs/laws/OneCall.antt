@@ -17,14 +17,15 @@ use Rattle.stage.specs.declared.Stage.{Stage}
 use Rattle.stage.specs.Stages.{stageOut, stageClear}
 use Rattle.pipeline.specs.declared.Pipeline.{Pipeline}
 use Rattle.pipeline.specs.Reset.{resetCall, formatLeaving}
-use Rattle.block.specs.declared.Half.{Half}
-use Rattle.block.specs.declared.Half.the-variants as half
-use Rattle.block.specs.declared.Answer.{Answer}
-use Rattle.block.specs.declared.Answer.the-variants as answer
+use Rattle.answers.specs.declared.Half.{Half}
+use Rattle.answers.specs.declared.Half.the-variants as half
+use Rattle.answers.specs.declared.Answer.{Answer}
+use Rattle.answers.specs.declared.Answer.the-variants as answer
 use Rattle.block.specs.Chain.{chainOut, chainNext}
 use Rattle.block.specs.laws.Chain.{length-chain-next}
 use Rattle.turns.specs.Turns.{Halves}
-use Rattle.block.specs.BlockCall.{Result, put, passed, halvesAfter, lastHalf, outputAnswer, accepted, frontOf, outputOf}
+use Rattle.block.specs.BlockCall.{Result, put, passed, halvesAfter, accepted}
+use Rattle.answers.specs.Answers.{lastHalf, outputAnswer, frontOf, outputOf}
 use Rattle.pipeline.specs.WritingBack.{stagesOf}
 use Rattle.block.specs.laws.Bounds.{legal-parts}
 use Rattle.block.specs.Turns.{Accepts}

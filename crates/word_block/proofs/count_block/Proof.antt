@@ -3,8 +3,7 @@ use borrow.Author.Needs.{needs}
 use mathlib.Core.Path.{ap, ap₂, _∙_}
 use Prim.Native.Nat.{ℕ}
 use lib.Seq.{sets}
-use Rattle.block.specs.BlockCall.{countedUp}
-use Rattle.block.specs.Turns.{countedIf}
+use Rattle.answers.specs.Answers.{countedUp, countedIf}
 use Rattle.chain_words.specs.Layout.{counterWords}
 use Rattle.word_block.proofs.count_block.Statement.{statement}
 use Rattle.word_block.proofs.count_block.Tie as tie

@@ -9,9 +9,10 @@ use lib.Seq.{length-sets}
 use Rattle.pcm.specs.Samples.{Bytes}
 use Rattle.pcm.specs.laws.Samples.{all-by-index}
 use Rattle.pipeline.specs.declared.Pipeline.{Pipeline}
-use Rattle.block.specs.BlockCall.{countedUp, shorter}
+use Rattle.answers.specs.Answers.{countedUp, countedIf}
+use Rattle.block.specs.BlockCall.{shorter}
 use Rattle.turns.specs.Turns.{halves}
-use Rattle.block.specs.Turns.{Accepts, countedIf}
+use Rattle.block.specs.Turns.{Accepts}
 use Rattle.block.specs.laws.Stages.{next-less, Plays}
 use Rattle.stage_words.specs.Layout.{heldAt, heldWords, word}
 use Rattle.stage_words.specs.laws.HeldParts.{held-past, held-within}

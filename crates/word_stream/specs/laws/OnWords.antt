@@ -3,13 +3,13 @@ use mathlib.Core.Path.{_≡_, refl, sym, ap, ap₂, _∙_}
 use mathlib.Core.List.{List, [], _++_}
 use Prim.Native.Nat.{ℕ}
 use Rattle.pipeline.specs.declared.Pipeline.{Pipeline}
-use Rattle.block.specs.declared.Half.the-variants as half
-use Rattle.block.specs.declared.Answer.{Answer}
-use Rattle.block.specs.declared.Answer.the-variants as answer
+use Rattle.answers.specs.declared.Half.the-variants as half
+use Rattle.answers.specs.declared.Answer.{Answer}
+use Rattle.answers.specs.declared.Answer.the-variants as answer
 use Rattle.block.specs.BlockCall.{Result, blockCall}
 use Rattle.stream.specs.Calls.{Call, callOutput, afterCalls}
 use Rattle.chain_words.specs.Layout.{chainOfWords}
-use Rattle.block.specs.Told.{answerTold}
+use Rattle.answers.specs.Answers.{answerTold}
 use Rattle.muzgleur.specs.Results.{BlockOutcome}
 use Rattle.word_stream.specs.OnWords.{taken, OnWords, none, played, cleared}
 

@@ -1,7 +1,7 @@
--- `block::Answer::told` meets its contract. Assumes nothing.
+-- `answers::Answer::told` meets its contract. Assumes nothing.
 use borrow.Author.Needs.{needs}
-use Rattle.block.proofs.Answer.told.Statement.{statement}
-use Rattle.block.proofs.Answer.told.Tie as tie
+use Rattle.answers.proofs.Answer.told.Statement.{statement}
+use Rattle.answers.proofs.Answer.told.Tie as tie
 
 pub told-spec : {M : Type 1} → statement M
 told-spec = tie.close (tie.spec

@@ -1,7 +1,7 @@
--- `block::output` meets its contract. Assumes nothing.
+-- `answers::output` meets its contract. Assumes nothing.
 use borrow.Author.Needs.{needs}
-use Rattle.block.proofs.output.Statement.{statement}
-use Rattle.block.proofs.output.Tie as tie
+use Rattle.answers.proofs.output.Statement.{statement}
+use Rattle.answers.proofs.output.Tie as tie
 
 pub output-spec : {M : Type 1} → statement M
 output-spec =

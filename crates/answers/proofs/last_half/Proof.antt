@@ -1,13 +1,13 @@
--- `block::last_half` meets its contract. Assumes nothing.
+-- `answers::last_half` meets its contract. Assumes nothing.
 use borrow.Author.Needs.{needs}
 use borrow.Author.Tests.{eq-eqb, ne-eqb}
 use mathlib.Core.Path.{_≡_, refl, ap, _∙_}
 use Prim.Native.Nat.{ℕ, zero, suc, _-_, _%_}
 use native.Mathlib.Omega.{arith}
-use Rattle.block.specs.declared.Half.the-variants.{A, B}
-use Rattle.block.specs.BlockCall.{lastHalf}
-use Rattle.block.proofs.last_half.Statement.{statement}
-use Rattle.block.proofs.last_half.Tie as tie
+use Rattle.answers.specs.declared.Half.the-variants.{A, B}
+use Rattle.answers.specs.Answers.{lastHalf}
+use Rattle.answers.proofs.last_half.Statement.{statement}
+use Rattle.answers.proofs.last_half.Tie as tie
 
 even : (n : ℕ) → (n ≡ 0 → ⊥) → (n - 1) % 2 ≡ 0 → A ≡ lastHalf n
 even zero z e = refl

@@ -1,8 +1,8 @@
--- `block::copy_unstaged` meets its contract. Assumes nothing.
+-- `answers::copy_unstaged` meets its contract. Assumes nothing.
 use borrow.Author.Needs.{needs}
 use borrow.Author.Tests.{ne-eqb}
-use Rattle.block.proofs.copy_unstaged.Statement.{statement}
-use Rattle.block.proofs.copy_unstaged.Tie as tie
+use Rattle.answers.proofs.copy_unstaged.Statement.{statement}
+use Rattle.answers.proofs.copy_unstaged.Tie as tie
 
 pub copy-unstaged-spec : {M : Type 1} → statement M
 copy-unstaged-spec = tie.close (tie.spec

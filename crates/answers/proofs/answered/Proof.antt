@@ -1,8 +1,8 @@
--- `block::answered` meets its contract. Assumes nothing.
+-- `answers::answered` meets its contract. Assumes nothing.
 use borrow.Author.Needs.{needs}
 use borrow.Author.Tests.{ne-eqb}
-use Rattle.block.proofs.answered.Statement.{statement}
-use Rattle.block.proofs.answered.Tie as tie
+use Rattle.answers.proofs.answered.Statement.{statement}
+use Rattle.answers.proofs.answered.Tie as tie
 
 pub answered-spec : {M : Type 1} → statement M
 answered-spec = tie.close (tie.spec

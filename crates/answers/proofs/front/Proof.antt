@@ -1,12 +1,12 @@
--- `block::front` meets its contract. Assumes nothing.
+-- `answers::front` meets its contract. Assumes nothing.
 use mathlib.Core.Path.{sym}
 use native.Mathlib.Omega.{arith}
 use lib.ListN.{length}
 use lib.Seq.{length-take-le}
 use borrow.Author.Tests.{le-leb, lt-leb}
 use borrow.Author.Needs.{needs}
-use Rattle.block.proofs.front.Statement.{statement}
-use Rattle.block.proofs.front.Tie as tie
+use Rattle.answers.proofs.front.Statement.{statement}
+use Rattle.answers.proofs.front.Tie as tie
 
 pub front-spec : {M : Type 1} → statement M
 front-spec =

@@ -1,8 +1,8 @@
--- `block::next_stage` meets its contract. Assumes nothing.
+-- `answers::next_stage` meets its contract. Assumes nothing.
 use borrow.Author.Needs.{needs}
 use borrow.Author.Tests.{ne-eqb}
-use Rattle.block.proofs.next_stage.Statement.{statement}
-use Rattle.block.proofs.next_stage.Tie as tie
+use Rattle.answers.proofs.next_stage.Statement.{statement}
+use Rattle.answers.proofs.next_stage.Tie as tie
 
 pub next-stage-spec : {M : Type 1} → statement M
 next-stage-spec = tie.close (tie.spec

@@ -1,8 +1,8 @@
--- `block::count_empty` meets its contract. Assumes nothing.
+-- `answers::count_empty` meets its contract. Assumes nothing.
 use borrow.Author.Needs.{needs}
 use borrow.Author.Tests.{ne-eqb}
-use Rattle.block.proofs.count_empty.Statement.{statement}
-use Rattle.block.proofs.count_empty.Tie as tie
+use Rattle.answers.proofs.count_empty.Statement.{statement}
+use Rattle.answers.proofs.count_empty.Tie as tie
 
 pub count-empty-spec : {M : Type 1} → statement M
 count-empty-spec = tie.close (tie.spec
