@@ -56,21 +56,21 @@ unfoldable pub sineAllowed : Float → Bool
 sineAllowed sine = le zero sine && le sine one
 
 -- the settings that every kind has
-unfoldable pub settingsAllowed : Float → Float → ℕ → Float → Float → Bool
-settingsAllowed f0 q rate sine cosine = rateAllowed rate && (frequencyAllowed f0 rate && (qualityAllowed q && (cosineAllowed cosine && sineAllowed sine)))
+unfoldable pub designSettingsAllowed : Float → Float → ℕ → Float → Float → Bool
+designSettingsAllowed f0 q rate sine cosine = rateAllowed rate && (frequencyAllowed f0 rate && (qualityAllowed q && (cosineAllowed cosine && sineAllowed sine)))
 
 -- for Peak a finite and above 0
-unfoldable pub factorAllowed : Float → Bool
-factorAllowed a = lt zero a && lt a (inf false)
+unfoldable pub peakFactorAllowed : Float → Bool
+peakFactorAllowed a = lt zero a && lt a (inf false)
 
 abbrev pub gainAllowed : BiquadKind → Float → Bool
 gainAllowed (LowPass f0 q) a = true
 gainAllowed (HighPass f0 q) a = true
-gainAllowed (Peak f0 q db) a = factorAllowed a
+gainAllowed (Peak f0 q db) a = peakFactorAllowed a
 gainAllowed (Notch f0 q) a = true
 
 unfoldable pub designAllowed : BiquadKind → ℕ → Float → Float → Float → Bool
-designAllowed kind rate sine cosine a = settingsAllowed (frequency kind) (quality kind) rate sine cosine && gainAllowed kind a
+designAllowed kind rate sine cosine a = designSettingsAllowed (frequency kind) (quality kind) rate sine cosine && gainAllowed kind a
 
 -- sin(w0) / (2 * Q)
 unfoldable pub alphaOf : Float → Float → Float

@@ -3,7 +3,7 @@ ghost use mathlib.Core.Path.{_≡_};
 ghost use mathlib.Core.Bool.{_&&_, cond};
 ghost use lib.Ieee.{lt, le};
 ghost use Rattle.pcm.specs.declared.Error.the-variants.{InvalidFormat};
-ghost use Rattle.cookbook.specs.Cookbook.{identity, alphaOf, settingsAllowed, factorAllowed, withNumerator, normalised, coefficientsOf, designVerdict, designAnswer, designTold, designValued};
+ghost use Rattle.cookbook.specs.Cookbook.{identity, alphaOf, designSettingsAllowed, peakFactorAllowed, withNumerator, normalised, coefficientsOf, designVerdict, designAnswer, designTold, designValued};
 use pcm::Error;
 
 // The response to design.
@@ -135,7 +135,7 @@ fn designed(allowed: bool, section: Section) -> DesignAnswer
 
 // Whether the settings that every kind has make a filter; a NaN fails each test.
 fn allowed(f0: f32, q: f32, rate: u32, sine: f64, cosine: f64) -> bool
-    ensures { λ r. ⌜ r ≡ settingsAllowed f0 q rate sine cosine ⌝ }
+    ensures { λ r. ⌜ r ≡ designSettingsAllowed f0 q rate sine cosine ⌝ }
 {
     if pcm::rate_allowed(rate) {
         if between(std::num::f32_to_f64_with_nan(f0), 0.0, (rate as f64) / 2.0) {
@@ -151,7 +151,7 @@ fn allowed(f0: f32, q: f32, rate: u32, sine: f64, cosine: f64) -> bool
 
 // Peak's a must also be finite and above 0.
 fn peak_allowed(f0: f32, q: f32, rate: u32, sine: f64, cosine: f64, a: f64) -> bool
-    ensures { λ r. ⌜ r ≡ (settingsAllowed f0 q rate sine cosine && factorAllowed a) ⌝ }
+    ensures { λ r. ⌜ r ≡ (designSettingsAllowed f0 q rate sine cosine && peakFactorAllowed a) ⌝ }
 {
     if allowed(f0, q, rate, sine, cosine) {
         return between(a, 0.0, 1.0 / 0.0);

@@ -3,9 +3,9 @@ use mathlib.Core.Bool.{Bool, false}
 use mathlib.Core.List.{List, map}
 use Prim.Native.Nat.{ℕ}
 use lib.Dec.{leb}
-use lib.IntN.{ℤ, pos, negsuc, natAbs, _+ℤ_, _*ℤ_}
+use lib.IntN.{ℤ, pos, natAbs, _+ℤ_, _*ℤ_}
 use lib.Ieee.{Float, fin, binary32, mul}
-use Rattle.pcm.specs.Integers.{floorDiv}
+use Rattle.pcm.specs.Integers.{−, floorDiv}
 use Rattle.pcm.specs.Samples.{held, held16, decode, encode}
 use Rattle.floats.specs.Rounding.{roundSat}
 use Rattle.gain.specs.declared.Gain.{Gain}
@@ -16,7 +16,7 @@ factorAllowed q15 = leb (natAbs q15) 33554432
 
 -- from_q15 holds the factor within ±33,554,432
 unfoldable pub heldFactor : ℤ → ℤ
-heldFactor q15 = held (negsuc 33554431) (pos 33554432) q15
+heldFactor q15 = held (− 33554432) (pos 33554432) q15
 
 -- linear multiplies by 32,768 and rounds to nearest, halves away, then holds alike; NaN gives 0
 unfoldable pub linearFactor : Float → ℤ

@@ -195,7 +195,7 @@ pub fn block(chain: Pipeline, sound: &mut [u8], a: &mut [u8], b: &mut [u8]) -> S
         return ended(chain);
     }
     let format = format_of(&s);
-    let timestamp = input::get_u64(&s, 6);
+    let timestamp = words::get_u64(&s, 6);
     block_lent(chain, format, timestamp, sound, a, b)
 }
 
@@ -232,7 +232,7 @@ pub fn scratch_bytes(chain: Pipeline) -> bool {
     if !input::filled(&mut s) {
         return false;
     }
-    let answer = block::scratch_bytes(chain, input::get_u64(&s, 0) as usize);
+    let answer = block::scratch_bytes(chain, words::get_u64(&s, 0) as usize);
     valued(answer.number(), answer.value() as u64);
     true
 }
@@ -286,7 +286,7 @@ pub fn max_output_frames() -> bool {
         return false;
     }
     let made = LinearResampler::new(words::get_u32(&s, 0), words::get_u32(&s, 4));
-    let answer = most_frames(made, input::get_u64(&s, 8) as usize);
+    let answer = most_frames(made, words::get_u64(&s, 8) as usize);
     valued(answer.number(), answer.value() as u64);
     true
 }
@@ -335,9 +335,9 @@ pub fn design() -> bool {
     let KindField::Kind(kind) = field else {
         return false;
     };
-    let sine = double_of_bits(input::get_u64(&s, 17));
-    let cosine = double_of_bits(input::get_u64(&s, 25));
-    let a = double_of_bits(input::get_u64(&s, 33));
+    let sine = double_of_bits(words::get_u64(&s, 17));
+    let cosine = double_of_bits(words::get_u64(&s, 25));
+    let a = double_of_bits(words::get_u64(&s, 33));
     let t = Coefficients::design(kind, words::get_u32(&s, 13), sine, cosine, a).told();
     output::short(t.number);
     coefficients(t.coefficients);

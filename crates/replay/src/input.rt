@@ -1,6 +1,4 @@
 // The fields of a command, read from standard input, low byte first.
-ghost use Prim.Native.Nat.{_+_, _<_};
-ghost use lib.ListN.{length};
 ghost use Rattle.io.specs.Counts.{Counts};
 
 // How many bytes stand at the front of a buffer; the end where the script ends inside them.
@@ -12,15 +10,6 @@ pub enum Count {
 // Fills buf; false where the script ends before that.
 pub fn filled(buf: &mut [u8]) -> bool {
     io::read_full(0, buf) == buf.len()
-}
-
-// The number in the eight bytes from i on.
-pub fn get_u64(s: &[u8], i: usize) -> u64
-    requires { ⌜ i + 7 < length (now s) ⌝ }
-{
-    let low = words::get_u32(s, i);
-    let high = words::get_u32(s, i + 4);
-    (low as u64) + 4294967296 * (high as u64)
 }
 
 // n where buf holds so many bytes, else 0.

@@ -18,8 +18,7 @@ pub fn word(x: u32) {
 
 pub fn long(x: u64) {
     let mut s = [0u8; 8];
-    words::put_u32(&mut s, 0, (x % 4294967296) as u32);
-    words::put_u32(&mut s, 4, (x / 4294967296) as u32);
+    words::put_u64(&mut s, 0, x);
     io::write_all(1, &s);
 }
 

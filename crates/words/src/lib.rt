@@ -1,4 +1,4 @@
-// Numbers of two and four bytes, low byte first.
+// Numbers of two, four and eight bytes, low byte first.
 ghost use mathlib.Core.Path.{_≡_};
 ghost use Prim.Native.Nat.{_+_, _<_};
 ghost use lib.ListN.{length};
@@ -23,6 +23,14 @@ pub fn get_u32(s: &[u8], i: usize) -> u32
     (get_u16(s, i) as u32) + 65536 * (get_u16(s, i + 2) as u32)
 }
 
+// The number in the eight bytes from i on.
+pub fn get_u64(s: &[u8], i: usize) -> u64
+    requires { ⌜ i + 7 < length (now s) ⌝ }
+    ensures { λ r. ⌜ r ≡ wordAt 8 i (now (s .entry)) ⌝ }
+{
+    (get_u32(s, i) as u64) + 4294967296 * (get_u32(s, i + 4) as u64)
+}
+
 // The number x to the bytes i and i + 1.
 pub fn put_u16(s: &mut [u8], i: usize, x: u16)
     requires { ⌜ i + 1 < length (now s) ⌝ }
@@ -39,6 +47,15 @@ pub fn put_u32(s: &mut [u8], i: usize, x: u32)
 {
     put_u16(s, i, (x % 65536) as u16);
     put_u16(s, i + 2, (x / 65536) as u16);
+}
+
+// The number x to the eight bytes from i on.
+pub fn put_u64(s: &mut [u8], i: usize, x: u64)
+    requires { ⌜ i + 7 < length (now s) ⌝ }
+    ensures { λ _. ⌜ now (s .exit) ≡ sets (now (s .entry)) i (wordBytes 8 x) ⌝ }
+{
+    put_u32(s, i, (x % 4294967296) as u32);
+    put_u32(s, i + 4, (x / 4294967296) as u32);
 }
 
 // Two's complement: the signed number that 32 bits hold.

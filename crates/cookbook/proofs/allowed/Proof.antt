@@ -4,7 +4,7 @@ use mathlib.Core.Path.{_≡_, sym, ap, _∙_}
 use mathlib.Core.Bool.{true}
 use lib.Ieee.{Float, ofBits, ofInt, round}
 use Rattle.pcm.specs.Formats.{rateAllowed}
-use Rattle.cookbook.specs.Cookbook.{settingsAllowed, frequencyAllowed, qualityAllowed, cosineAllowed, sineAllowed}
+use Rattle.cookbook.specs.Cookbook.{designSettingsAllowed, frequencyAllowed, qualityAllowed, cosineAllowed, sineAllowed}
 use Rattle.cookbook.proofs.allowed.Statement.{statement}
 use Rattle.cookbook.proofs.allowed.Tie as tie
 
@@ -34,7 +34,7 @@ unfolding qualityAllowed ofBits ofInt round
 quality-yes c = c .if3 .taken
 
 returns : tie.Need-returns
-unfolding settingsAllowed sineAllowed ofBits ofInt round
+unfolding designSettingsAllowed sineAllowed ofBits ofInt round
 returns c =
     let t4 = c .before in
     let t3 = t4 .before .before in
@@ -42,22 +42,22 @@ returns c =
     rw (rate-yes (t2 .before .before .before .before), frequency-yes t2, quality-yes t3, cosine-is (t4 .before) ∙ t4 .if4 .taken) (c .within2 .ensures)
 
 returns-2 : tie.Need-returns-2
-unfolding settingsAllowed
+unfolding designSettingsAllowed
 returns-2 c =
     let t3 = c .before .before in
     let t2 = t3 .before in
     rw (rate-yes (t2 .before .before .before .before), frequency-yes t2, quality-yes t3, cosine-is (c .before) ∙ c .if4 .left)
 
 returns-3 : tie.Need-returns-3
-unfolding settingsAllowed qualityAllowed ofBits ofInt round
+unfolding designSettingsAllowed qualityAllowed ofBits ofInt round
 returns-3 c = let t2 = c .before in rw (rate-yes (t2 .before .before .before .before), frequency-yes t2, c .if3 .left)
 
 returns-4 : tie.Need-returns-4
-unfolding settingsAllowed
+unfolding designSettingsAllowed
 returns-4 c = rw (rate-yes (c .before .before .before .before), frequency-is (c .before) ∙ c .if2 .left)
 
 returns-5 : tie.Need-returns-5
-unfolding settingsAllowed
+unfolding designSettingsAllowed
 returns-5 c = rw (rate-is (c .before) ∙ c .if1 .left)
 
 pub allowed-spec : {M : Type 1} → statement M

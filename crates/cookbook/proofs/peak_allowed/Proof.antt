@@ -1,12 +1,12 @@
 -- `cookbook::peak_allowed` meets its contract. Assumes nothing.
 use borrow.Author.Needs.{needs}
 use lib.Ieee.{ofBits, ofInt, round, div}
-use Rattle.cookbook.specs.Cookbook.{factorAllowed}
+use Rattle.cookbook.specs.Cookbook.{peakFactorAllowed}
 use Rattle.cookbook.proofs.peak_allowed.Statement.{statement}
 use Rattle.cookbook.proofs.peak_allowed.Tie as tie
 
 returns : tie.Need-returns
-unfolding factorAllowed ofBits ofInt round div
+unfolding peakFactorAllowed ofBits ofInt round div
 returns c = rw (← c .before .before .allowed .ensures, c .before .if1 .taken) (c .between .ensures)
 
 returns-2 : tie.Need-returns-2
