@@ -1,4 +1,4 @@
--- Document 01's number and values for each case of Half, Answer and Scratch, and of a call by what its questions came to. Definitions only.
+-- Number and values of a block call, by what its questions came to. Definitions only.
 use mathlib.Core.Bool.{cond}
 use mathlib.Core.List.{List}
 use Prim.Native.Nat.{ℕ}

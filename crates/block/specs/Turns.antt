@@ -1,4 +1,4 @@
--- An accepted block, and the steps of the call: the copy where there are no stages, the next stage, the counter. Definitions only.
+-- An accepted block: what its questions have shown. Definitions only.
 use mathlib.Core.Path.{_≡_}
 use mathlib.Core.Bool.{true}
 use mathlib.Core.List.{List}

@@ -1,4 +1,4 @@
--- Laws of Writing.
+-- What is left to read of a block: the next byte, the next two, and the next four. Assumes nothing.
 use mathlib.Core.Path.{_≡_, sym, ap, _∙_}
 use mathlib.Core.List.{List, _∷_}
 use Prim.Native.Nat.{ℕ, _+_, _<_}

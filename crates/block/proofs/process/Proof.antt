@@ -80,8 +80,7 @@ process-spec = tie.close (tie.spec
     μ-loop
     Inv-loop2
     μ-loop2
-    (λ c κs. search needs)
-    (λ c κs. search needs)
+    (λ c κs. search needs) (λ c κs. search needs)
     (λ c.
     let a = c .before .before .before .before .before .before .before .args in
     with-told (a .t1) (a .format) (a .timestamp) (a .block .now) (a .a .now) (a .b .now) _
@@ -90,15 +89,12 @@ process-spec = tie.close (tie.spec
     (λ c κs. search needs)
     (λ c κs. let a = c .before .before .before .before .before .before .before .args in head-parts (a .t1 .format) (a .t1 .count) (sym (c .before .before .head-legal .ensures) ∙ not-false _ (c .before .if1 .left)) .channels)
     (λ c. asks-first _ _ _ _ _ _ _ _ (head c) (eight c) (c .begun .ensures))
-    (λ c. search needs)
-    (λ c. search needs)
+    (λ c. search needs) (λ c. search needs)
     (λ c κs. asks-fits _ _ _ _ _ _ _ _ (c .before .before .loop .inv) (c .before .loop-test .taken))
-    (λ c. search needs)
-    (λ c. search needs)
+    (λ c. search needs) (λ c. search needs)
     (λ c. asks-next _ _ _ _ _ _ _ _ (c .before .before .before .loop .inv) (c .before .before .loop-test .taken) _ (c .asked .ensures))
     (λ c κs. (head-parts (s (c .before .before) .args .t1 .format) (s (c .before .before) .args .t1 .count) (head (c .before .before)) .channels .0, c .before .loop .inv .within .short))
-    (λ c. search needs)
-    (λ c κs. search needs)
+    (λ c. search needs) (λ c κs. search needs)
     (λ c.
     let v = c .before .before .before .before in
     let a = s (v .before .before .before) .args in
@@ -113,14 +109,9 @@ process-spec = tie.close (tie.spec
     let e = c .before .before .before .before in
     let a = s (b e) .args in
     plays-first (a .t1) (a .block .now) (a .a .now) (a .b .now) (takes e) (eight (b e)) (bytes (b e)) _ _ (c .before .before .copy-unstaged .ensures) (b e .before .shorter-of .ensures))
-    (λ c. search needs)
-    (λ c. search needs)
+    (λ c. search needs) (λ c. search needs)
     (λ c κs. turn-asks _ _ _ _ _ _ _ _ _ _ _ (c .before .before .before .before .loop2 .inv) (c .before .before .before .loop2-test .taken))
-    (λ c κs. search needs)
-    (λ c. search needs)
-    (λ c. search needs)
-    (λ c κs. search needs)
-    (λ c κs. search needs)
+    (λ c κs. search needs) (λ c. search needs) (λ c. search needs) (λ c κs. search needs) (λ c κs. search needs)
     (λ c.
     let t = c .before .before .before .before .before .before .before .before in
     let l = t .before .before .before .before .before in
@@ -133,9 +124,7 @@ process-spec = tie.close (tie.spec
     (λ w. stored _ _ _ _ _ _ _ _ _ _ _ (l .loop2 .inv) (t .before .before .before .before .loop2-test .taken) _ _ _ _ (t .turn .ensures) (c .before .format-after .ensures) _ (c .next-stage .ensures) _ (w .2))
     (λ w. stayed _ _ _ _ _ _ _ _ _ _ _ (l .loop2 .inv) (t .before .before .before .before .loop2-test .taken) _ _ _ _ (t .turn .ensures) (c .before .format-after .ensures) _ (c .next-stage .ensures) _ (w .1) (sym (j .before .remembers .ensures) ∙ w .0 .left))
     (j .if2 .came))
-    (λ c κs. search needs)
-    (λ c κs. search needs)
-    (λ c κs. search needs)
+    (λ c κs. search needs) (λ c κs. search needs) (λ c κs. search needs)
     (λ c.
     let l = c .before .before .before .before in
     let e = l .before .before .before .before .before in

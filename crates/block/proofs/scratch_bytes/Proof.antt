@@ -54,15 +54,12 @@ scratch-bytes-spec = tie.close (tie.spec
     (λ c. with-value _ _ _ (scratch-refused _ _ (sym (c .before .head-legal .ensures) ∙ not-true _ (c .if1 .taken))))
     (λ c κs. let a = c .before .before .before .args in head-parts (a .t1 .format) (a .t1 .count) (sym (c .before .head-legal .ensures) ∙ not-false _ (c .if1 .left)) .channels)
     (λ c. asks-first _ _ _ _ _ _ _ _ (head c) (eight c) (c .begun .ensures))
-    (λ c. search needs)
-    (λ c. search needs)
+    (λ c. search needs) (λ c. search needs)
     (λ c κs. asks-fits _ _ _ _ _ _ _ _ (c .before .before .loop .inv) (c .before .loop-test .taken))
-    (λ c. search needs)
-    (λ c. search needs)
+    (λ c. search needs) (λ c. search needs)
     (λ c. asks-next _ _ _ _ _ _ _ _ (c .before .before .before .loop .inv) (c .before .before .loop-test .taken) _ (c .asked .ensures))
     (λ c κs. let a = s (c .before .before) .args in head-parts (a .t1 .format) (a .t1 .count) (head (c .before .before)) .channels .0)
-    (λ c. search needs)
-    (λ c. search needs)
+    (λ c. search needs) (λ c. search needs)
     (λ c. record { fits = omega (arith, c .before .before .before .before .before .loop .inv .within .largest) })
     (λ c.
     let v = c .before .before .before in

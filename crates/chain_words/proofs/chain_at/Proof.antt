@@ -24,10 +24,7 @@ returns c =
 
 pub chain-at-spec : {M : Type 1} → statement M
 chain-at-spec = tie.close (tie.spec
-    (λ c κs. search needs)
-    (λ c κs. search needs)
-    (λ c. search needs)
+    (λ c κs. search needs) (λ c κs. search needs) (λ c. search needs)
     (λ c. omega (arith, c .shared-slice-known2 .given 0))
-    (λ c κs. search needs)
-    (λ c κs. search needs)
+    (λ c κs. search needs) (λ c κs. search needs)
     returns)

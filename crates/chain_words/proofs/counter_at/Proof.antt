@@ -11,12 +11,9 @@ add-result-2 c = let a = c .before .before .args in omega (arith, c .shared-slic
 
 pub counter-at-spec : {M : Type 1} → statement M
 counter-at-spec = tie.close (tie.spec
-    (λ c. search needs)
-    (λ c. search needs)
+    (λ c. search needs) (λ c. search needs)
     (λ c. omega (arith, c .shared-slice-known .given (c .before .args .i)))
-    (λ c. search needs)
-    (λ c. search needs)
-    (λ c. search needs)
+    (λ c. search needs) (λ c. search needs) (λ c. search needs)
     (λ c. let a = c .before .before .args in omega (arith, c .shared-slice-known2 .given (a .i + 1)))
     (λ c. let a = c .before .before .args in omega (arith, c .shared-slice-known2 .given (a .i + 1)))
     add-result-2

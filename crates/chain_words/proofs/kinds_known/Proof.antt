@@ -37,13 +37,8 @@ returns-2 c = let l = c .before in let a = l .before .before .args in sym (l .lo
 pub kinds-known-spec : {M : Type 1} → statement M
 kinds-known-spec = tie.close (tie.spec Inv-loop μ-loop
     loop-holds
-    (λ c. search needs)
-    (λ c. search needs)
-    (λ c. search needs)
-    (λ c. search needs)
-    (λ c κs. search needs)
+    (λ c. search needs) (λ c. search needs) (λ c. search needs) (λ c. search needs) (λ c κs. search needs)
     returns
-    (λ c. search needs)
-    (λ c. search needs)
+    (λ c. search needs) (λ c. search needs)
     loop-again
     returns-2)

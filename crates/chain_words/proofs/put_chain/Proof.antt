@@ -85,11 +85,9 @@ pub put-chain-spec : {M : Type 1} → statement M
 put-chain-spec = tie.close (tie.spec Inv-loop μ-loop
     (λ c κs. search needs)
     loop-holds
-    (λ c. search needs)
-    (λ c. search needs)
+    (λ c. search needs) (λ c. search needs)
     put-stage-at-requires
-    (λ c. search needs)
-    (λ c. search needs)
+    (λ c. search needs) (λ c. search needs)
     loop-again
     same-length
     returns)

@@ -6,12 +6,6 @@ use Rattle.chain_words.proofs.put_counter.Tie as tie
 
 pub put-counter-spec : {M : Type 1} → statement M
 put-counter-spec = tie.close (tie.spec
-    (λ c. search needs)
-    (λ c. search needs)
-    (λ c. search needs)
-    (λ c. search needs)
-    (λ c. search needs)
-    (λ c. search needs)
-    (λ c. search needs)
+    (λ c. search needs) (λ c. search needs) (λ c. search needs) (λ c. search needs) (λ c. search needs) (λ c. search needs) (λ c. search needs)
     (λ c. search needs)
     (λ c. rw add-one))

@@ -12,7 +12,5 @@ returns c =
 
 pub put-counters-spec : {M : Type 1} → statement M
 put-counters-spec = tie.close (tie.spec
-    (λ c κs. search needs)
-    (λ c κs. search needs)
-    (λ c. search needs)
+    (λ c κs. search needs) (λ c κs. search needs) (λ c. search needs)
     returns)

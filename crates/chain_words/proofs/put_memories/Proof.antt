@@ -65,8 +65,7 @@ put-memories-spec = tie.close (tie.spec Inv-loop μ-loop
     (λ c. search needs)
     (λ c. omega (arith, c .before .before .before .pre .0))
     put-memory-at-requires
-    (λ c. search needs)
-    (λ c. search needs)
+    (λ c. search needs) (λ c. search needs)
     loop-again
     (λ c. long (c .before))
     returns)

@@ -14,7 +14,5 @@ returns c =
 
 pub put-sound-spec : {M : Type 1} → statement M
 put-sound-spec = tie.close (tie.spec
-    (λ c κs. search needs)
-    (λ c κs. search needs)
-    (λ c. search needs)
+    (λ c κs. search needs) (λ c κs. search needs) (λ c. search needs)
     returns)

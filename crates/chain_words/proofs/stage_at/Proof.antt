@@ -12,11 +12,5 @@ returns c = c .stage-of .ensures ∙ ap stageOf (part-to-end (c .before .before 
 
 pub stage-at-spec : {M : Type 1} → statement M
 stage-at-spec = tie.close (tie.spec
-    (λ c. search needs)
-    (λ c. search needs)
-    (λ c. search needs)
-    (λ c. search needs)
-    (λ c. search needs)
-    (λ c. search needs)
-    (λ c κs. search needs)
+    (λ c. search needs) (λ c. search needs) (λ c. search needs) (λ c. search needs) (λ c. search needs) (λ c. search needs) (λ c κs. search needs)
     returns)

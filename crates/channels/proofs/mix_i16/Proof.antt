@@ -21,9 +21,7 @@ pub mix-i16-spec : {M : Type 1} → statement M
 mix-i16-spec = tie.close (tie.spec
     (λ c. (sym (mix-unequal _ _ _ (c .if1 .taken)), refl))
     (λ c. (sym (mix-odd _ _ _ (c .before .if1 .left) (c .if2 .taken)), refl))
-    (λ c κs. search needs)
-    (λ c. search needs)
-    (λ c. search needs)
+    (λ c κs. search needs) (λ c. search needs) (λ c. search needs)
     mix-block-requires
     (λ c. search needs)
     (λ c. (sym (room-is (c .before .before .before) ∙ c .before .e .given .1), refl))

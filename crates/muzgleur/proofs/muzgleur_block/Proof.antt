@@ -16,9 +16,5 @@ returns c =
 
 pub muzgleur-block-spec : {M : Type 1} → statement M
 muzgleur-block-spec = tie.close (tie.spec
-    (λ c κs. search needs)
-    (λ c κs. search needs)
-    (λ c. search needs)
-    (λ c. search needs)
-    (λ c. search needs)
+    (λ c κs. search needs) (λ c κs. search needs) (λ c. search needs) (λ c. search needs) (λ c. search needs)
     returns)

@@ -45,11 +45,6 @@ returns-3 c =
 pub muzgleur-open-spec : {M : Type 1} → statement M
 muzgleur-open-spec = tie.close (tie.spec
     returns
-    (λ c κs. search needs)
-    (λ c. search needs)
-    (λ c κs. search needs)
-    (λ c. search needs)
-    (λ c κs. search needs)
-    (λ c. search needs)
+    (λ c κs. search needs) (λ c. search needs) (λ c κs. search needs) (λ c. search needs) (λ c κs. search needs) (λ c. search needs)
     returns-2
     returns-3)

@@ -47,9 +47,7 @@ returns-2 c =
 
 pub muzgleur-reset-spec : {M : Type 1} → statement M
 muzgleur-reset-spec = tie.close (tie.spec
-    (λ c κs. search needs)
-    (λ c κs. search needs)
-    (λ c κs. search needs)
+    (λ c κs. search needs) (λ c κs. search needs) (λ c κs. search needs)
     put-sound-requires
     (λ c. search needs)
     returns

@@ -11,8 +11,5 @@ returns c =
 
 pub muzgleur-write-recipe-spec : {M : Type 1} → statement M
 muzgleur-write-recipe-spec = tie.close (tie.spec
-    (λ c κs. search needs)
-    (λ c κs. search needs)
-    (λ c κs. search needs)
-    (λ c. search needs)
+    (λ c κs. search needs) (λ c κs. search needs) (λ c κs. search needs) (λ c. search needs)
     returns)

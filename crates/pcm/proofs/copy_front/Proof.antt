@@ -46,8 +46,7 @@ loop-again c =
 pub copy-front-spec : {M : Type 1} → statement M
 copy-front-spec = tie.close (tie.spec Inv-loop μ-loop
     (λ c. (omega arith, length-replicate {A = ℕ} 32768 0, writing-start _ _ _ refl))
-    (λ c. search needs)
-    (λ c κs. search needs)
+    (λ c. search needs) (λ c κs. search needs)
     (λ c. omega arith)
     (λ c. search needs)
     (λ c. omega arith)

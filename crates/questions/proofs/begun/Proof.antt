@@ -24,9 +24,7 @@ module _ (f : PcmFormat) (count size shorter : ℕ) (n g room short : ℕ) (p : 
 
 pub begun-spec : {M : Type 1} → statement M
 begun-spec = tie.close (tie.spec
-    (λ c κs. search needs)
-    (λ c κs. search needs)
+    (λ c κs. search needs) (λ c κs. search needs)
     (λ c. record { fits = omega (arith, small _ 0 _ 0 _ _ 0 0 (c .before .block-frames .ensures) (c .frame-bytes .ensures) (c .before .before .pre .1)) })
-    (λ c κs. search needs)
-    (λ c κs. search needs)
+    (λ c κs. search needs) (λ c κs. search needs)
     (λ c. walk-is _ _ _ _ _ _ _ _ (c .before .before .before .block-frames .ensures) (c .before .before .frame-bytes .ensures) (c .before .copy-room .ensures) (c .first-short .ensures)))

@@ -20,10 +20,6 @@ module _ (f : PcmFormat) (size : ℕ) where
 
 pub block-frames-spec : {M : Type 1} → statement M
 block-frames-spec = tie.close (tie.spec
-    (λ c κs. search needs)
-    (λ c. search needs)
-    (λ c. search needs)
-    (λ c κs. search needs)
-    (λ c. search needs)
+    (λ c κs. search needs) (λ c. search needs) (λ c. search needs) (λ c κs. search needs) (λ c. search needs)
     (λ c. none _ _ _ (sym (c .before .before .size-question .ensures) ∙ c .enum-told .given .1))
     (λ c. some _ _ _ (c .frame-bytes .ensures) (sym (c .before .before .before .size-question .ensures) ∙ c .before .enum-told2 .given .1)))

@@ -32,15 +32,12 @@ module _ (w : Walk) (s : Stage) (q : Question) (shorter : ℕ) (f : PcmFormat) (
 
 pub onward-spec : {M : Type 1} → statement M
 onward-spec = tie.close (tie.spec
-    (λ c κs. search needs)
-    (λ c κs. search needs)
-    (λ c κs. search needs)
+    (λ c κs. search needs) (λ c κs. search needs) (λ c κs. search needs)
     (λ c.
     let d = c .before .before in
     let s = d .before .before .before in
     record { fits = omega (arith, fits (s .args .walk) (s .args .s) (s .args .question) 0 _ _ _ (d .before .format-after .ensures) (d .stage-due .ensures) (c .before .frame-bytes .ensures) (s .pre .0 .0) (s .pre .0 .1) (s .pre .1)) })
-    (λ c κs. search needs)
-    (λ c κs. search needs)
+    (λ c κs. search needs) (λ c κs. search needs)
     (λ c.
     let d = c .before .before .before .before in
     let s = d .before .before .before in

@@ -27,10 +27,8 @@ module _ (q : Question) (s : Stage) (n : ℕ) where
 
 pub stage-due-spec : {M : Type 1} → statement M
 stage-due-spec = tie.close (tie.spec
-    (λ c κs. search needs)
-    (λ c. search needs)
+    (λ c κs. search needs) (λ c. search needs)
     (λ c. not-reached _ _ _ (c .before .enum-told .given .1) (c .if1 .taken))
-    (λ c κs. search needs)
-    (λ c. search needs)
+    (λ c κs. search needs) (λ c. search needs)
     (λ c. reached _ _ _ _ (c .before .before .before .before .frames-wanted .ensures) _ (c .before .before .enum-told .given .1) (c .before .if1 .left) (c .frames-out .ensures))
     (λ c. any-state _ _ _ _ (c .before .before .frames-wanted .ensures) (c .enum-told2 .given .1)))

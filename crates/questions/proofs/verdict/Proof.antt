@@ -36,11 +36,9 @@ sized-here c = sym (c .before .before .before .sized .ensures) ∙ c .before .en
 
 pub verdict-spec : {M : Type 1} → statement M
 verdict-spec = tie.close (tie.spec
-    (λ c κs. search needs)
-    (λ c. search needs)
+    (λ c κs. search needs) (λ c. search needs)
     (λ c. not-sized _ _ _ _ _ (sym (c .before .before .before .sized .ensures) ∙ c .before .asked .given .1))
-    (λ c. search needs)
-    (λ c κs. search needs)
+    (λ c. search needs) (λ c κs. search needs)
     (λ c. other _ _ _ _ (sized-here (c .before)) (sym (c .before .same-format .ensures) ∙ not-true _ (c .if1 .taken)))
     (λ c. search needs)
     (λ c. too-short _ _ _ _ (sized-here (c .before .before .before .before)) (sym (c .before .before .before .before .same-format .ensures) ∙ not-false _ (c .before .before .before .if1 .left)) (c .before .if2 .taken))

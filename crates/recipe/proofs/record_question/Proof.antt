@@ -81,11 +81,9 @@ returns-6 c = let e = c .before .before in rw (but-last (c .before), rw (e .befo
 pub record-question-spec : {M : Type 1} → statement M
 record-question-spec = tie.close (tie.spec
     returns
-    (λ c κs. search needs)
-    (λ c. search needs)
+    (λ c κs. search needs) (λ c. search needs)
     returns-2
-    (λ c κs. search needs)
-    (λ c κs. search needs)
+    (λ c κs. search needs) (λ c κs. search needs)
     returns-3
     (λ c κs. is-known c)
     (λ c. omega (arith, due c, few-fields (kindAt (leftOf (c .before .before .before .before .before .before .before .before)))))

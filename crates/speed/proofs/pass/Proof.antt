@@ -16,14 +16,8 @@ pub pass-spec : {M : Type 1} → statement M
 pass-spec =
     tie.close (tie.spec Inv-loop μ-loop
     (λ c. (refl, refl))
-    (λ c κs. search needs)
-    (λ c. search needs)
-    (λ c. search needs)
-    (λ c. search needs)
+    (λ c κs. search needs) (λ c. search needs) (λ c. search needs) (λ c. search needs)
     (λ c κs. tt)
     (λ c κs. tt)
-    (λ c. search needs)
-    (λ c. search needs)
-    (λ c. search needs)
-    (λ c. search needs)
+    (λ c. search needs) (λ c. search needs) (λ c. search needs) (λ c. search needs)
     (λ c. tt))

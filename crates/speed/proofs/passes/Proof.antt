@@ -21,7 +21,5 @@ passes-spec =
     (λ c κs. search needs)
     (λ c. omega (arith, c .before .before .before .before .before .before .before .loop-test .taken, c .before .before .before .before .before .before .before .before .loop .inv .2))
     (λ c. omega (arith, c .before .before .before .before .before .before .before .loop-test .taken))
-    (λ c. search needs)
-    (λ c. search needs)
-    (λ c. search needs)
+    (λ c. search needs) (λ c. search needs) (λ c. search needs)
     (λ c. tt))

@@ -14,7 +14,5 @@ returns c =
 
 pub put-memory-spec : {M : Type 1} → statement M
 put-memory-spec = tie.close (tie.spec
-    (λ c κs. search needs)
-    (λ c κs. search needs)
-    (λ c. search needs)
+    (λ c κs. search needs) (λ c κs. search needs) (λ c. search needs)
     returns)

@@ -27,7 +27,5 @@ returns c =
 
 pub put-stage-spec : {M : Type 1} → statement M
 put-stage-spec = tie.close (tie.spec
-    (λ c κs. search needs)
-    (λ c κs. search needs)
-    (λ c. search needs)
+    (λ c κs. search needs) (λ c κs. search needs) (λ c. search needs)
     returns)

@@ -41,14 +41,10 @@ returns c =
 
 pub put-state-spec : {M : Type 1} → statement M
 put-state-spec = tie.close (tie.spec
-    (λ c. search needs)
-    (λ c. search needs)
-    (λ c κs. search needs)
-    (λ c κs. search needs)
+    (λ c. search needs) (λ c. search needs) (λ c κs. search needs) (λ c κs. search needs)
     mul-w
     add-w
-    (λ c. search needs)
-    (λ c. search needs)
+    (λ c. search needs) (λ c. search needs)
     (λ c. simp length-set (omega arith))
     (λ c κs. search needs)
     (λ c. simp length-set (omega arith))

@@ -17,9 +17,6 @@ returns-2 c = settled w16 (upper-half (c .before .args .n) (c .if1 .left) (c .be
 
 pub sample-of-spec : {M : Type 1} → statement M
 sample-of-spec = tie.close (tie.spec
-    (λ c. search needs)
-    (λ c. search needs)
-    (λ c. search needs)
-    (λ c. search needs)
+    (λ c. search needs) (λ c. search needs) (λ c. search needs) (λ c. search needs)
     sub-result-2
     returns-2)

@@ -36,16 +36,8 @@ returns-6 c = rw (c .before .before .kind4 .given .1) (refl, tt)
 
 pub setting-words-spec : {M : Type 1} → statement M
 setting-words-spec = tie.close (tie.spec
-    (λ c. search needs)
-    (λ c κs. search needs)
-    (λ c. search needs)
-    (λ c. search needs)
-    (λ c. search needs)
-    (λ c. search needs)
-    (λ c. search needs)
-    (λ c. search needs)
-    (λ c κs. search needs)
-    (λ c. search needs)
+    (λ c. search needs) (λ c κs. search needs) (λ c. search needs) (λ c. search needs) (λ c. search needs) (λ c. search needs) (λ c. search needs)
+    (λ c. search needs) (λ c κs. search needs) (λ c. search needs)
     returns
     returns-2
     returns-3

@@ -16,8 +16,7 @@ returns c =
 
 pub state-of-spec : {M : Type 1} → statement M
 state-of-spec = tie.close (tie.spec
-    (λ c. search needs)
-    (λ c κs. search needs)
+    (λ c. search needs) (λ c κs. search needs)
     (λ c κs. omega (arith, c .before .shared-slice-known2 .given 15))
     (λ c. search needs)
     (λ c. omega (arith, c .shared-slice-known3 .given 16))

@@ -24,8 +24,7 @@ either-half i m a b h = go (eqb (i % 2) 0) h
 
 pub turn-spec : {M : Type 1} → statement M
 turn-spec = tie.close (tie.spec
-    (λ c. search needs)
-    (λ c. search needs)
+    (λ c. search needs) (λ c. search needs)
     (λ c κs. let t = c .before .before .before in let s = start (t .before .before) in
     gain-turn-asks (s .args .format) (s .args .s) (s .pre) _ (t .kind .given .1))
     (λ c. search needs)
@@ -37,8 +36,7 @@ turn-spec = tie.close (tie.spec
     (λ c. search needs)
     (λ c κs. let t = c .before .before in let s = start (t .before .before) in
     mono-turn-asks (s .args .format) (s .args .s) (s .pre) (t .enum-told2 .given .1))
-    (λ c. search needs)
-    (λ c κs. search needs)
+    (λ c. search needs) (λ c κs. search needs)
     (λ c κs. let m = c .before .before in let t = m .before .before in let s = start (t .before .before) in
     resample-turn-asks (s .args .format) (s .args .s) (s .pre) _ _ (t .kind2 .given .1) (m .held-samples .ensures .0) (m .held-samples .ensures .1))
     (λ c. search needs)
@@ -51,27 +49,21 @@ turn-spec = tie.close (tie.spec
     (λ c. search needs)
     (λ c κs. let t = c .before .before .before in let s = start (t .before .before) in
     biquad-turn-asks (s .args .format) (s .args .s) (s .pre) _ (t .kind4 .given .1))
-    (λ c. search needs)
-    (λ c. search needs)
+    (λ c. search needs) (λ c. search needs)
     (λ c. let d = c .before .before .before .before in let t = d .before .before .before .before in let s = start (t .before .before) in
     gain-turned (s .args .format) (s .args .s) (s .pre) _ _ (t .kind .given .1) (d .gain-turn .ensures))
-    (λ c. search needs)
-    (λ c. search needs)
+    (λ c. search needs) (λ c. search needs)
     (λ c. let d = c .before .before .before .before in let t = d .before .before .before in let s = start (t .before .before) in
     stereo-turned (s .args .format) (s .args .s) (s .pre) _ (t .enum-told .given .1) (d .stereo-turn .ensures))
-    (λ c. search needs)
-    (λ c. search needs)
+    (λ c. search needs) (λ c. search needs)
     (λ c. let d = c .before .before .before .before in let t = d .before .before .before in let s = start (t .before .before) in
     mono-turned (s .args .format) (s .args .s) (s .pre) _ (t .enum-told2 .given .1) (d .mono-turn .ensures))
-    (λ c. search needs)
-    (λ c. search needs)
+    (λ c. search needs) (λ c. search needs)
     (λ c. let d = c .before .before .before .before .before .before in let m = d .before .before .before in let t = m .before .before in let s = start (t .before .before) in
     resample-turned (s .args .format) (s .args .s) (s .pre) _ _ (t .kind2 .given .1) (m .held-samples .ensures .0) (m .held-samples .ensures .1) (d .resample-turn .result) _ (d .resample-turn .ensures))
-    (λ c. search needs)
-    (λ c. search needs)
+    (λ c. search needs) (λ c. search needs)
     (λ c. let d = c .before .before .before .before in let t = d .before .before .before .before in let s = start (t .before .before) in
     dc-turned (s .args .format) (s .args .s) (s .pre) _ _ _ (t .kind3 .given .1) (d .dc-turn .ensures))
-    (λ c. search needs)
-    (λ c. search needs)
+    (λ c. search needs) (λ c. search needs)
     (λ c. let d = c .before .before .before .before in let t = d .before .before .before .before in let s = start (t .before .before) in
     biquad-turned (s .args .format) (s .args .s) (s .pre) _ _ _ (t .kind4 .given .1) (d .biquad-turn .ensures)))

@@ -143,8 +143,7 @@ play-spec = tie.close (tie.spec
     (λ c κs.
     let il = c .before .before .before .before .before .before .before .before .before .before .before .before .before in
     (omega (arith, il .before .loop .inv .plays .few, il .loop-test .taken), il .before .loop .inv .long))
-    (λ c κs. search needs)
-    (λ c κs. search needs)
+    (λ c κs. search needs) (λ c κs. search needs)
     (λ c.
     let t = c .before .before .before .before .before .before .before .before .before .before .before in
     let il = t .before .before .before .before .before .before .before in

@@ -27,17 +27,12 @@ module _ (c : tie.After-enum-told) where
 
 pub process-spec : {M : Type 1} → statement M
 process-spec = tie.close (tie.spec
-    (λ c κs. search needs)
-    (λ c κs. search needs)
-    (λ c. search needs)
+    (λ c κs. search needs) (λ c κs. search needs) (λ c. search needs)
     (λ c κs.
     let e = c .before .before .before in
     let a = s (k e) .args in
     (accepted-stands (a .words .now) (a .format) (a .sound .now) (a .a .now) (a .b .now) (accepted e), accepts _ (a .format) (a .sound .now) (a .a .now) (a .b .now) (accepted e)))
-    (λ c. search needs)
-    (λ c. search needs)
-    (λ c. search needs)
-    (λ c. search needs)
+    (λ c. search needs) (λ c. search needs) (λ c. search needs) (λ c. search needs)
     (λ c.
     let p = c .before .before .before .before .before .before in
     let e = p .before .before .before .before in

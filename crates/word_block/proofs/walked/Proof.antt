@@ -35,7 +35,6 @@ walked-spec = tie.close (tie.spec
     (λ c κs. (omega (arith, c .before .loop .inv .few), c .before .before .before .pre .0))
     (λ c κs. (omega (arith, c .before .before .loop .inv .few), c .before .before .before .before .pre .0))
     (λ c κs. asks-fits _ _ _ _ _ _ _ _ (c .before .before .before .loop .inv) (c .before .before .loop-test .taken))
-    (λ c. search needs)
-    (λ c. search needs)
+    (λ c. search needs) (λ c. search needs)
     loop-again
     (λ c. let v = c .before .loop .inv in record { is = asks-end _ _ _ _ _ _ _ _ v (c .loop-test .left); largest = v .within .largest; short = v .within .short }))

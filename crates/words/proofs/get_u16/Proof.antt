@@ -16,8 +16,7 @@ pub get-u16-spec : {M : Type 1} → statement M
 get-u16-spec = tie.close (tie.spec
     (λ c. search needs)
     (λ c. omega (arith, c .shared-slice-known .given (c .before .args .i)))
-    (λ c. search needs)
-    (λ c. search needs)
+    (λ c. search needs) (λ c. search needs)
     (λ c. omega (arith, c .shared-slice-known2 .given (c .before .before .args .i + 1)))
     (λ c. omega (arith, c .shared-slice-known2 .given (c .before .before .args .i + 1)))
     (λ c. omega (arith, c .shared-slice-known2 .given (c .before .before .args .i), c .shared-slice-known2 .given (c .before .before .args .i + 1)))

@@ -80,17 +80,14 @@ loop-again c =
 pub write-stages-spec : {M : Type 1} → statement M
 write-stages-spec = tie.close (tie.spec Inv-loop μ-loop
     loop-holds
-    (λ c. search needs)
-    (λ c. search needs)
-    (λ c κs. search needs)
+    (λ c. search needs) (λ c. search needs) (λ c κs. search needs)
     (λ c. let r = room c in omega arith)
     (λ c. let r = room c in omega arith)
     (λ c. search needs)
     write-requires
     (λ c κs. search needs)
     (λ c. let e = c .size .ensures in let r = room (c .before .before .before .before .before) in let k = kept (c .before .before .before .before .before .before .before .before) in let b = fits (c .before .before .before .before .before .before .before .before .before .before) in omega arith)
-    (λ c. search needs)
-    (λ c. search needs)
+    (λ c. search needs) (λ c. search needs)
     loop-again
     (λ c. kept (c .before))
     (λ c. let e : c .before .loop .i ≡ c .before .before .before .args .count = omega arith in rw e at (c .before .loop .inv .2)))

@@ -50,10 +50,6 @@ pub output-format-spec : {M : Type 1} → statement M
 output-format-spec = tie.close (tie.spec Inv-loop μ-loop
     returns
     loop-holds
-    (λ c. search needs)
-    (λ c. search needs)
-    (λ c κs. search needs)
-    (λ c. search needs)
-    (λ c. search needs)
+    (λ c. search needs) (λ c. search needs) (λ c κs. search needs) (λ c. search needs) (λ c. search needs)
     loop-again
     returns-2)

@@ -48,12 +48,6 @@ pub reset-spec : {M : Type 1} → statement M
 reset-spec = tie.close (tie.spec Inv-loop μ-loop
     returns
     loop-holds
-    (λ c. search needs)
-    (λ c. search needs)
-    (λ c κs. search needs)
-    (λ c. search needs)
-    (λ c. search needs)
-    (λ c. search needs)
-    (λ c. search needs)
+    (λ c. search needs) (λ c. search needs) (λ c κs. search needs) (λ c. search needs) (λ c. search needs) (λ c. search needs) (λ c. search needs)
     loop-again
     returns-2)

@@ -51,10 +51,7 @@ returns-3 c =
 pub write-recipe-spec : {M : Type 1} → statement M
 write-recipe-spec = tie.close (tie.spec
     returns
-    (λ c κs. search needs)
-    (λ c κs. search needs)
-    (λ c. search needs)
-    (λ c. search needs)
+    (λ c κs. search needs) (λ c κs. search needs) (λ c. search needs) (λ c. search needs)
     returns-2
     (λ c. search needs)
     (λ c κs. let r = room (c .before) in search needs)

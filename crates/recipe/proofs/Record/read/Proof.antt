@@ -29,8 +29,7 @@ returns-2 c =
 
 pub read-spec : {M : Type 1} → statement M
 read-spec = tie.close (tie.spec
-    (λ c κs. search needs)
-    (λ c. search needs)
+    (λ c κs. search needs) (λ c. search needs)
     (λ c κs. let w = whole c in omega (arith, w .four))
     record-of-requires
     (λ c. search needs)

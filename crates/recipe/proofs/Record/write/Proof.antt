@@ -37,6 +37,5 @@ write-spec = tie.close (tie.spec
     (λ c κs. omega (arith, room (c .before .before .before)))
     (λ c κs. search needs)
     (λ c κs. let p = c .before .before .before .before in omega (arith, room (p .before .before .before .before), simp length-set at (ap length (p .put-u16 .ensures))))
-    (λ c κs. search needs)
-    (λ c. search needs)
+    (λ c κs. search needs) (λ c. search needs)
     returns)

@@ -61,12 +61,9 @@ returns-6 c = let p = c .before .before in stored (p .before .before .before .be
 
 pub write-fields-spec : {M : Type 1} → statement M
 write-fields-spec = tie.close (tie.spec
-    (λ c. search needs)
-    (λ c κs. search needs)
+    (λ c. search needs) (λ c κs. search needs)
     put-u32-requires
-    (λ c. search needs)
-    (λ c. search needs)
-    (λ c. search needs)
+    (λ c. search needs) (λ c. search needs) (λ c. search needs)
     put-u32-requires-2
     put-u32-requires-3
     (λ c. search needs)
@@ -75,9 +72,7 @@ write-fields-spec = tie.close (tie.spec
     write-biquad-requires
     (λ c. search needs)
     returns
-    (λ c. search needs)
-    (λ c. search needs)
-    (λ c. search needs)
+    (λ c. search needs) (λ c. search needs) (λ c. search needs)
     returns-4
     (λ c. search needs)
     returns-5
