@@ -179,7 +179,7 @@ pub fn copy_unstaged(count: usize, block: &[u8], a: &mut [u8])
     ensures { λ _. ⌜ now (a .exit) ≡ unstaged count (now (block .entry)) (now (a .entry)) ⌝ }
 {
     if count == 0 {
-        pcm::copy_front(block, a);
+        copying::copy_front(block, a);
     }
 }
 

@@ -76,7 +76,7 @@ impl Gain {
     {
         let q = self.q15;
         if q == 32768 {
-            pcm::copy_front(input, out);
+            copying::copy_front(input, out);
             return;
         }
         gain_samples(input, out, q);

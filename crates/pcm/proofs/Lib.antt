@@ -1,3 +1,1 @@
-mod Spans
 mod Words
-mod Writing

@@ -1,11 +1,10 @@
 // Formats, refusals, limits and 16-bit samples, low byte first (lib.rs, elements/mod.rs).
 ghost use mathlib.Core.Path.{_≡_};
-ghost use Prim.Native.Nat.{_+_, _≤_, _<_, min};
+ghost use Prim.Native.Nat.{_+_, _<_};
 ghost use lib.ListN.{length};
 ghost use Rattle.pcm.specs.Formats.{rateAllowed, formatAllowed, frameBytes};
 ghost use Rattle.pcm.specs.Refusals.{refusal, numberOf, roomVerdict};
 ghost use Rattle.pcm.specs.Samples.{held16, sampleOf, sampleAt, stored};
-ghost use Rattle.pcm.specs.Frames.{written};
 
 pub const MAX_CHANNELS: u16 = 2;
 
@@ -168,40 +167,4 @@ pub fn put_i16(s: &mut [u8], i: usize, v: i16)
     let u = (((v as i32) + 65536) as u32) % 65536;
     s[i] = (u % 256) as u8;
     s[i + 1] = (u / 256) as u8;
-}
-
-// The lesser of the two.
-fn least(a: usize, b: usize) -> usize
-    ensures { λ r. ⌜ r ≡ min a b ⌝ }
-{
-    if a < b { a } else { b }
-}
-
-// The bytes of input at the front of out, one at a time.
-fn copy_bytes(input: &[u8], out: &mut [u8])
-    requires { ⌜ length (now input) ≤ length (now out) ⌝ }
-    ensures { λ _. ⌜ now (out .exit) ≡ written (now (input .entry)) (now (out .entry)) ⌝ }
-{
-    let n = input.len();
-    let mut i: usize = 0;
-    while i < n {
-        out[i] = input[i];
-        i += 1;
-    }
-}
-
-// The bytes of input at the front of out. By way of an array, so that each 32,768 bytes compile to one memmove and no array.
-pub fn copy_front(input: &[u8], out: &mut [u8])
-    requires { ⌜ length (now input) ≤ length (now out) ⌝ }
-    ensures { λ _. ⌜ now (out .exit) ≡ written (now (input .entry)) (now (out .entry)) ⌝ }
-{
-    let n = input.len();
-    let mut b = [0u8; 32768];
-    let mut at: usize = 0;
-    while at < n {
-        let to = at + least(n - at, 32768);
-        copy_bytes(&input[at..to], &mut b);
-        copy_bytes(&b[..to - at], &mut out[at..to]);
-        at = to;
-    }
 }

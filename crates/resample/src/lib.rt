@@ -227,7 +227,7 @@ pub fn process(
     ensures { λ r. ⌜ Processed (resampled resampler s (framesOf channels (now (input .entry)))) (stateAfter resampler s (framesOf channels (now (input .entry)))) (now (out .entry)) (now (out .exit)) r ⌝ }
 {
     if resampler.in_rate == resampler.out_rate {
-        pcm::copy_front(input, out);
+        copying::copy_front(input, out);
         return Resampled {
             frames: input.len() / (channels * 2),
             state: s,

@@ -1,13 +1,13 @@
--- `pcm::copy_bytes` meets its contract. Assumes nothing.
+-- `copying::copy_bytes` meets its contract. Assumes nothing.
 use mathlib.Core.Path.{refl}
 use Prim.Native.Nat.{_-_, _≤_}
 use native.Mathlib.Omega.{arith}
 use lib.ListN.{drop}
 use Rattle.pcm.specs.Frames.{written}
 use Rattle.pcm.specs.laws.Writing.{Writing, writing-start, writing-byte, writing-as, writing-end}
-use Rattle.pcm.proofs.Writing.{next-byte}
-use Rattle.pcm.proofs.copy_bytes.Statement.{statement}
-use Rattle.pcm.proofs.copy_bytes.Tie as tie
+use Rattle.copying.proofs.Writing.{next-byte}
+use Rattle.copying.proofs.copy_bytes.Statement.{statement}
+use Rattle.copying.proofs.copy_bytes.Tie as tie
 
 abbrev Inv-loop : tie.InvT-loop
 Inv-loop input out₀ n i₀ out i = (i ≤ n) × Writing (written input out₀) (drop i input) n out₀ out i

@@ -1,16 +1,16 @@
--- `pcm::copy_front` meets its contract. Assumes nothing.
+-- `copying::copy_front` meets its contract. Assumes nothing.
 use borrow.Author.Needs.{needs}
 use mathlib.Core.Path.{_≡_, refl, sym, ap, _∙_}
 use mathlib.Core.List.{List, _++_}
 use Prim.Native.Nat.{ℕ, _+_, _-_, _≤_}
 use native.Mathlib.Omega.{arith}
 use lib.ListN.{length, take, drop, length-take, length-drop, length-replicate}
 use Rattle.pcm.specs.Frames.{written}
 use Rattle.pcm.specs.laws.Frames.{front-written}
 use Rattle.pcm.specs.laws.Writing.{Writing, writing-start, writing-as, writing-end}
-use Rattle.pcm.proofs.Spans.{part, part-length, next-part, written-whole, writing-part}
-use Rattle.pcm.proofs.copy_front.Statement.{statement}
-use Rattle.pcm.proofs.copy_front.Tie as tie
+use Rattle.copying.proofs.Spans.{part, part-length, next-part, written-whole, writing-part}
+use Rattle.copying.proofs.copy_front.Statement.{statement}
+use Rattle.copying.proofs.copy_front.Tie as tie
 
 abbrev Inv-loop : tie.InvT-loop
 Inv-loop input out₀ n b₀ at₀ out b at = (at ≤ n) × (length b ≡ 32768) × Writing (written input out₀) (drop at input) n out₀ out at
