@@ -81,13 +81,13 @@ Held (kind.DcBlock b) m = Unit {0}
 Held (kind.Biquad b) m = Unit {0}
 
 -- ---- a stage's turn
--- whole frames of one or two channels to read, at least one, in a format that suits the stage, and the room that it wants
+-- whole frames of one or two channels to read, at least one, in a format that suits the stage, and room for what it delivers
 pub record Served (f : PcmFormat) (s : Stage) (source target : List ℕ) : Type 0 where
   pub suit : stageSuits f (s .kind) (s .memory) ≡ true
   pub channels : (0 < f .channels) × (f .channels ≤ 2)
   pub some : 0 < length source
   pub whole : length source % (f .channels * 2) ≡ 0
-  pub room : roomWanted f (s .kind) (length source / (f .channels * 2)) ≤ length target
+  pub room : framesOut (s .kind) (s .memory) (length source / (f .channels * 2)) * (formatAfter f (s .kind) .channels * 2) ≤ length target
 
 -- what a stage delivers of the frames xs to the front of its half, and keeps
 pub record Serves (f : PcmFormat) (s next : Stage) (xs : List Frame) (len : ℕ) (before after : List ℕ) : Type 0 where

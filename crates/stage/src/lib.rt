@@ -3,6 +3,7 @@ ghost use mathlib.Core.Path.{_≡_};
 ghost use mathlib.Core.Bool.{true, false, _&&_};
 ghost use Prim.Native.Nat.{_*_, _≤_};
 ghost use lib.Dec.{eqb, leb, ltb};
+ghost use lib.ListN.{length};
 ghost use Rattle.pcm.specs.Samples.{Samples};
 ghost use Rattle.stage.specs.Rooms.{ratesSuit, stageSuits, framesOut, framesWanted, Bounded};
 ghost use Rattle.stage.specs.Stages.{formatAfter, memoryAsOpened, remembers, stageAsOpened, stageClear};
@@ -184,9 +185,9 @@ pub fn frames_wanted(kind: StageKind, frames: usize) -> usize
     }
 }
 
-// The state as it is; that its newest frame is of samples is what its type says.
+// The state as it is; that its newest frame is of two samples is what its type says.
 pub fn held_samples(state: ResamplerState) -> ResamplerState
-    ensures { λ r. ⌜ (r ≡ state) × Samples (state .last) ⌝ }
+    ensures { λ r. ⌜ (r ≡ state) × Samples (state .last) × (length (state .last) ≡ 2) ⌝ }
 {
     let last = state.last;
     let left = last[0];

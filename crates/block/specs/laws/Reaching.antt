@@ -53,11 +53,11 @@ pub format-none : (f : PcmFormat) → formatLeaving f [] ≡ f
 unfolding formatLeaving
 format-none f = refl
 
-bytes-nil : bytesOf [] ≡ []
+pub bytes-nil : bytesOf [] ≡ []
 unfolding bytesOf
 bytes-nil = refl
 
-put-nil : (i : ℕ) (h : Halves) → put i [] h ≡ h
+pub put-nil : (i : ℕ) (h : Halves) → put i [] h ≡ h
 put-nil i h = go (eqb (i % 2) 0)
   where
     go : (t : Bool) → cond t (record { a = written [] (h .a); b = h .b }) (record { a = h .a; b = written [] (h .b) }) ≡ h
@@ -94,7 +94,15 @@ pub record Sized (before after : Halves) : Type 0 where
   pub a : length (after .a) ≡ length (before .a)
   pub b : length (after .b) ≡ length (before .b)
 
-target-long : (i : ℕ) (h : Halves) (m : ℕ) → m ≤ length (h .a) → m ≤ length (h .b) → m ≤ length (targetAt i h)
+-- what is written to one leaves both as long as they were
+pub put-sized : (i : ℕ) (out : List ℕ) (h : Halves) → length out ≤ length (h .a) → length out ≤ length (h .b) → Sized h (put i out h)
+put-sized i out h p q = go (eqb (i % 2) 0)
+  where
+    go : (t : Bool) → Sized h (cond t (record { a = written out (h .a); b = h .b }) (record { a = h .a; b = written out (h .b) }))
+    go true = record { a = length-written out (h .a) p; b = refl }
+    go false = record { a = refl; b = length-written out (h .b) q }
+
+pub target-long : (i : ℕ) (h : Halves) (m : ℕ) → m ≤ length (h .a) → m ≤ length (h .b) → m ≤ length (targetAt i h)
 target-long i h m p q = go (eqb (i % 2) 0)
   where
     go : (t : Bool) → m ≤ length (cond t (h .a) (h .b))
@@ -192,13 +200,16 @@ module _ (old : List Stage) (count : ℕ) (format : PcmFormat) (block : List ℕ
   frames-here : length (sourceAt i n block h) / (f .channels * 2) ≡ length (r .xs)
   frames-here = ap (λ (k : ℕ). k / (f .channels * 2)) (r .long) ∙ mul-div-cancel (length (r .xs)) (let p : 0 < f .channels * 2 = omega (arith, r .channels .0) in p)
 
+  held : framesOut (s .kind) (s .memory) (length (r .xs)) * (formatAfter f (s .kind) .channels * 2) ≤ roomWanted f (s .kind) (length (r .xs))
+  held = room-holds-bytes f (s .memory) (s .kind) (length (r .xs)) suit-here
+
   served : Served f s (sourceAt i n block h) (targetAt i h)
   served = record {
     suit = suit-here;
     channels = r .channels;
     some = rw (r .long) (mul-pos (r .some) (let p : 0 < f .channels * 2 = omega (arith, r .channels .0) in p));
     whole = rw (r .long) (mul-mod-left (length (r .xs)) (f .channels * 2));
-    room = rw frames-here (target-long i h (roomWanted f (s .kind) (length (r .xs))) (omega (arith, room-here)) (omega (arith, room-here)));
+    room = rw frames-here (target-long i h (framesOut (s .kind) (s .memory) (length (r .xs)) * (formatAfter f (s .kind) .channels * 2)) (omega (arith, held, room-here)) (omega (arith, held, room-here)));
   }
 
   -- what its turn asks
@@ -245,8 +256,7 @@ module _ (old : List Stage) (count : ℕ) (format : PcmFormat) (block : List ℕ
     within-out =
         let a : length out * (g .channels * 2) ≤ roomWanted f (s .kind) (length (r .xs)) =
         subst (λ (k : PcmFormat). length out * (k .channels * 2) ≤ roomWanted f (s .kind) (length (r .xs))) (sym e)
-        (subst (λ (k : ℕ). k * (formatAfter f (s .kind) .channels * 2) ≤ roomWanted f (s .kind) (length (r .xs))) (sym count-out)
-        (room-holds-bytes f (s .memory) (s .kind) (length (r .xs)) suit-here)) in
+        (subst (λ (k : ℕ). k * (formatAfter f (s .kind) .channels * 2) ≤ roomWanted f (s .kind) (length (r .xs))) (sym count-out) held) in
         omega (arith, size-is, long-out, room-here)
 
     sides-out : passed 0 (take count old) (framesOf (format .channels) block) before ≡ passed (i + 1) rest out h′
@@ -272,14 +282,7 @@ module _ (old : List Stage) (count : ℕ) (format : PcmFormat) (block : List ℕ
     form-out = r .form ∙ ap (formatLeaving f) ahead ∙ format-cons s rest f ∙ ap (λ (k : PcmFormat). formatLeaving k rest) (sym e)
 
     pub sized-out : Sized h h′
-    sized-out = subst (Sized h) (sym halves-are) (go (eqb (i % 2) 0))
-      where
-        l : length (bytesOf out) ≤ short
-        l = omega (arith, size-is, within-out)
-
-        go : (t : Bool) → Sized h (cond t (record { a = written (bytesOf out) (h .a); b = h .b }) (record { a = h .a; b = written (bytesOf out) (h .b) }))
-        go true = record { a = length-written (bytesOf out) (h .a) (omega (arith, l)); b = refl }
-        go false = record { a = refl; b = length-written (bytesOf out) (h .b) (omega (arith, l)) }
+    sized-out = subst (Sized h) (sym halves-are) (put-sized i (bytesOf out) h (omega (arith, size-is, within-out)) (omega (arith, size-is, within-out)))
 
     empty-out : length out ≡ 0 → m ≡ 0
     empty-out q = size-is ∙ long-out ∙ ap (λ (k : ℕ). k * (g .channels * 2)) q ∙ zero-mul (g .channels * 2)

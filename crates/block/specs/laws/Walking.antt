@@ -148,10 +148,10 @@ none-reached f (s ∷ l) shorter = refl
 abbrev pub shortThen : ℕ → Verdict → Verdict
 shortThen short v = cond (eqb short 0) v (Refused (BufferTooSmall (2 * short)))
 
-then-none : (short : ℕ) (v : Verdict) → short ≡ 0 → shortThen short v ≡ v
+pub then-none : (short : ℕ) (v : Verdict) → short ≡ 0 → shortThen short v ≡ v
 then-none short v z = rw (eq-eqb short 0 z)
 
-then-short : (short : ℕ) (v : Verdict) → (short ≡ 0 → ⊥) → shortThen short v ≡ Refused (BufferTooSmall (2 * short))
+pub then-short : (short : ℕ) (v : Verdict) → (short ≡ 0 → ⊥) → shortThen short v ≡ Refused (BufferTooSmall (2 * short))
 then-short short v z = rw (ne-eqb short 0 z)
 
 module _ (shorter short room : ℕ) where

@@ -37,7 +37,7 @@ returns c =
     let two : length (s .args .state .last) ≡ 2 = search needs in
     let f : SFits w16 (getD (s .args .state .last) 0 (pos 0)) = record { sfits = c .before .left .given } in
     let g : SFits w16 (getD (s .args .state .last) 1 (pos 0)) = record { sfits = c .right .given } in
-    (ap (λ (l : List ℤ). record { last = l; phase = s .args .state .phase; primed = s .args .state .primed }) (same (s .args .state .last) two f g), samples (s .args .state .last) two f g)
+    (ap (λ (l : List ℤ). record { last = l; phase = s .args .state .phase; primed = s .args .state .primed }) (same (s .args .state .last) two f g), samples (s .args .state .last) two f g, two)
 
 pub held-samples-spec : {M : Type 1} → statement M
 held-samples-spec = tie.close (tie.spec (λ c. search needs) (λ c. search needs) returns)

@@ -3,7 +3,7 @@ use mathlib.Core.Path.{_≡_, refl, sym, ap, ap₂, _∙_, subst}
 use mathlib.Core.Bool.{true}
 use mathlib.Core.List.{List, map}
 use Prim.Native.Nat.{ℕ, _*_, _/_, _%_, _≤_}
-use native.Mathlib.Nat.{div-add-mod', mul-le-mul-right}
+use native.Mathlib.Nat.{div-add-mod'}
 use native.Mathlib.Omega.{arith}
 use borrow.Author.Tests.{leb-true, eqb-true}
 use lib.IntN.{ℤ, natAbs}
@@ -27,7 +27,7 @@ use Rattle.rates.specs.declared.LinearResampler.{LinearResampler}
 use Rattle.rates.specs.declared.ResamplerState.{ResamplerState}
 use Rattle.resample.specs.declared.Resampled.{Resampled}
 use Rattle.resample.specs.Resample.{resampled, stateAfter}
-use Rattle.resample.specs.Theorems.{room-holds-resampled}
+use Rattle.resample.specs.laws.Delivered.{resampled-count}
 use Rattle.resample.specs.laws.Neighbours.{resampled-frames}
 use Rattle.resample.specs.Stage.{Ready, Processed}
 use Rattle.stage.specs.declared.StageKind.{StageKind}
@@ -35,7 +35,7 @@ use Rattle.stage.specs.declared.StageKind.the-variants as kind
 use Rattle.stage.specs.declared.SoundMemory.{SoundMemory}
 use Rattle.stage.specs.declared.Stage.{Stage}
 use Rattle.stage.specs.Stages.{outOf, keepsOf, stageOut, stageNext, formatAfter}
-use Rattle.stage.specs.Rooms.{stageSuits, framesWanted, roomWanted, Resamples, Held, Served, Serves}
+use Rattle.stage.specs.Rooms.{stageSuits, framesOut, Resamples, Held, Served, Serves}
 use Rattle.stage.specs.laws.Rooms.{resamples, held-frames}
 
 module _ (st : Stage) (xs : List Frame) (k : StageKind) (e : st .kind ≡ k) where
@@ -64,8 +64,8 @@ module _ (f : PcmFormat) (st : Stage) (src dst : List ℕ) (w : Served f st src 
   suit-of : (k : StageKind) → st .kind ≡ k → stageSuits f k (st .memory) ≡ true
   suit-of k e = ap (λ (k : StageKind). stageSuits f k (st .memory)) (sym e) ∙ w .suit
 
-  room-of : (k : StageKind) → st .kind ≡ k → roomWanted f k (length src / (f .channels * 2)) ≤ length dst
-  room-of k e = subst (λ (k : StageKind). roomWanted f k (length src / (f .channels * 2)) ≤ length dst) e (w .room)
+  room-of : (k : StageKind) → st .kind ≡ k → framesOut k (st .memory) (length src / (f .channels * 2)) * (formatAfter f k .channels * 2) ≤ length dst
+  room-of k e = subst (λ (k : StageKind). framesOut k (st .memory) (length src / (f .channels * 2)) * (formatAfter f k .channels * 2) ≤ length dst) e (w .room)
 
   frames-are : FramesOf (f .channels) xs → FramesOf (formatAfter f (st .kind) .channels) (stageOut st xs)
   frames-are a = held-frames f st xs (w .suit) held a
@@ -81,7 +81,7 @@ module _ (f : PcmFormat) (st : Stage) (src dst : List ℕ) (w : Served f st src 
 
   -- ---- gain
   pub gain-asks : (g : Gain) → st .kind ≡ kind.Gain g → (length src % 2 ≡ 0) × (length src ≤ length dst) × (natAbs (g .q15) ≤ 33554432)
-  unfolding stageSuits roomWanted framesWanted
+  unfolding stageSuits framesOut
   gain-asks g e = (even, omega (arith, room-of (kind.Gain g) e, whole-is), leb-true _ _ (suit-of (kind.Gain g) e))
 
   pub gain-serves : (g : Gain) (dst′ : List ℕ) → st .kind ≡ kind.Gain g → dst′ ≡ written (scaledBytes (g .q15) src) dst → Serves f st st xs (length src) dst dst′
@@ -95,7 +95,7 @@ module _ (f : PcmFormat) (st : Stage) (src dst : List ℕ) (w : Served f st src 
   stereo-channels e = eqb-true _ _ (suit-of kind.MonoToStereo e)
 
   pub stereo-asks : st .kind ≡ kind.MonoToStereo → (length src % 2 ≡ 0) × (length src * 2 ≤ length dst)
-  unfolding roomWanted framesWanted
+  unfolding framesOut
   stereo-asks e =
       let c : f .channels ≡ 1 = stereo-channels e in
       let n : length src ≡ length src / 2 * 2 = rw c at whole-is in
@@ -116,7 +116,7 @@ module _ (f : PcmFormat) (st : Stage) (src dst : List ℕ) (w : Served f st src 
   four e = rw (mono-channels e) at (w .whole)
 
   pub mono-asks : st .kind ≡ kind.StereoToMono → (length src % 4 ≡ 0) × (length src / 2 ≤ length dst)
-  unfolding roomWanted framesWanted
+  unfolding framesOut
   mono-asks e =
       let c : f .channels ≡ 2 = mono-channels e in
       let m : length src % 4 ≡ 0 = four e in
@@ -134,11 +134,11 @@ module _ (f : PcmFormat) (st : Stage) (src dst : List ℕ) (w : Served f st src 
   filter-asks h = record { at-least-one = w .channels .0; at-most-two = w .channels .1; whole = w .whole; room = h }
 
   pub dc-asks : (b : DcBlock) → st .kind ≡ kind.DcBlock b → FilterBlock (f .channels) src dst
-  unfolding roomWanted framesWanted
+  unfolding framesOut
   dc-asks b e = filter-asks (omega (arith, room-of (kind.DcBlock b) e, whole-is))
 
   pub biquad-asks : (b : Biquad) → st .kind ≡ kind.Biquad b → FilterBlock (f .channels) src dst
-  unfolding roomWanted framesWanted
+  unfolding framesOut
   biquad-asks b e = filter-asks (omega (arith, room-of (kind.Biquad b) e, whole-is))
 
   filter-serves : (tick : Taps → ℤ → Taps) (k : StageKind) (n : FilterMemory) (dst′ : List ℕ) → st .kind ≡ k
@@ -169,11 +169,10 @@ module _ (f : PcmFormat) (st : Stage) (src dst : List ℕ) (w : Served f st src 
     made = resampled r (st .memory .resampler) xs
 
     made-room : length made * (f .channels * 2) ≤ length dst
-    unfolding roomWanted framesWanted
+    unfolding framesOut
     made-room =
         let n : length xs ≡ length src / (f .channels * 2) = length-frames (f .channels) src in
-        let k = rw n at (room-holds-resampled r (suit-here .rates) (st .memory .resampler) xs) in
-        omega (arith, mul-le-mul-right (f .channels * 2) k, room-of (kind.Resample r) e)
+        rw (resampled-count r (st .memory .resampler) xs, n) (room-of (kind.Resample r) e)
 
     pub resample-asks : Ready (f .channels) (r .«in_r») (r .«out_r») made src dst
     resample-asks = record {

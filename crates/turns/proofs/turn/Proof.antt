@@ -7,7 +7,7 @@ use Prim.Native.Nat.{ℕ, _%_, _≤_}
 use native.Mathlib.Omega.{arith}
 use lib.Dec.{eqb}
 use lib.ListN.{length}
-use Rattle.turns.proofs.Playing.{biquad-turn-asks, biquad-turned, dc-turn-asks, dc-turned, gain-turn-asks, gain-turned, mono-turn-asks, mono-turned, resample-long, resample-turn-asks, resample-turned, stereo-long, stereo-turn-asks, stereo-turned}
+use Rattle.turns.specs.laws.Playing.{biquad-turn-asks, biquad-turned, dc-turn-asks, dc-turned, gain-turn-asks, gain-turned, mono-turn-asks, mono-turned, resample-long, resample-turn-asks, resample-turned, stereo-long, stereo-turn-asks, stereo-turned}
 use Rattle.turns.proofs.turn.Statement.{statement}
 use Rattle.turns.proofs.turn.Tie as tie
 
