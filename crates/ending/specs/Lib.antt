@@ -1,0 +1,4 @@
+pub mod ResamplerEnd
+pub mod StageEnd
+pub mod Theorems
+pub mod laws

@@ -1,0 +1,4 @@
+pub mod EndRoom
+pub mod EndedSamples
+pub mod ResamplerEnd
+pub mod StageEnd
