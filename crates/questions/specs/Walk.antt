@@ -1,4 +1,5 @@
--- The questions of a block and of `scratch_bytes` (document 01, 'The questions'), as one walk along the stages finds them. Definitions only.
+-- The questions of a block and of `scratch_bytes` (document 01, 'The questions') and of a finish (document 02, Q-1), as one walk along the
+-- stages finds them. Definitions only.
 use mathlib.Core.Bool.{Bool, cond, _&&_, true, false}
 use Prim.Native.Nat.{ℕ, _*_, _%_, _/_, _≤_, _<_}
 use lib.Dec.{eqb, leb, ltb}
@@ -12,8 +13,9 @@ use Rattle.pcm.specs.Refusals.{ask}
 use Rattle.stage.specs.declared.Stage.{Stage}
 use Rattle.stage.specs.Stages.{formatAfter}
 use Rattle.stage.specs.Rooms.{stageSuits, framesOut, framesWanted}
+use Rattle.ending.specs.StageEnd.{framesAtEnd}
 use Rattle.questions.specs.declared.Question.{Question}
-use Rattle.questions.specs.declared.Question.the-variants.{Block, AnyState}
+use Rattle.questions.specs.declared.Question.the-variants.{Block, AnyState, Finish}
 use Rattle.questions.specs.declared.Due.{Due}
 use Rattle.questions.specs.declared.Walk.{Walk}
 
@@ -46,10 +48,12 @@ blockFrames f size = framesIf (sizeVerdict f size) (size / (f .channels * 2))
 
 -- ---- one stage
 -- in frames, what a stage that n frames reach wants room for, and what it delivers:
--- of a block on the chain as it is, nothing where none reach it; in any state, as many as it wants room for
+-- of a block on the chain as it is, nothing where none reach it; in any state, as many as it wants room for; at a finish, room for what it
+-- delivers
 unfoldable pub dueOf : Question → Stage → ℕ → Due
 dueOf Block s n = cond (eqb n 0) (record { wanted = 0; delivered = 0 }) (record { wanted = framesWanted (s .kind) n; delivered = framesOut (s .kind) (s .memory) n })
 dueOf AnyState s n = record { wanted = framesWanted (s .kind) n; delivered = framesWanted (s .kind) n }
+dueOf Finish s n = record { wanted = framesAtEnd (s .kind) (s .memory) n; delivered = framesAtEnd (s .kind) (s .memory) n }
 
 -- the room of the first stage that the shorter half does not hold; 0 while there is none
 unfoldable pub firstShort : ℕ → ℕ → ℕ → ℕ

@@ -8,10 +8,11 @@ use pcm::PcmFormat;
 use pcm::Verdict;
 use stage::Stage;
 
-// For which the walk asks: a block on the chain as it is, or a block on the chain in any state.
+// For which the walk asks: a block on the chain as it is, a block on the chain in any state, or a finish.
 pub enum Question {
     Block,
     AnyState,
+    Finish,
 }
 
 // In frames, what a stage wants room for and what it delivers.
@@ -103,6 +104,13 @@ fn stage_due(question: Question, s: Stage, frames: usize) -> Due
             wanted,
             delivered: wanted,
         },
+        Question::Finish => {
+            let delivered = ending::frames_at_end(s, frames);
+            Due {
+                wanted: delivered,
+                delivered,
+            }
+        }
     }
 }
 

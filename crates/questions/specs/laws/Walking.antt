@@ -3,7 +3,7 @@ use mathlib.Core.Path.{_≡_, refl}
 use mathlib.Core.Bool.{Bool, true, false, cond}
 use mathlib.Core.List.{List, _∷_}
 use Prim.Native.Nat.{ℕ, _*_, _/_, _≤_, _<_}
-use native.Mathlib.Nat.{le-refl}
+use native.Mathlib.Nat.{le-refl, le-trans}
 use native.Mathlib.Omega.{arith}
 use borrow.Author.Tests.{leb-true}
 use lib.Dec.{eqb, leb}
@@ -14,9 +14,10 @@ use Rattle.pcm.specs.Refusals.{ask}
 use Rattle.stage.specs.declared.Stage.{Stage}
 use Rattle.stage.specs.Stages.{formatAfter}
 use Rattle.stage.specs.Rooms.{stageSuits, framesOut, framesWanted, Bounded}
-use Rattle.stage.specs.laws.Rooms.{wanted-holds, channels-after}
+use Rattle.stage.specs.laws.Rooms.{suits-bounded, wanted-holds, channels-after}
+use Rattle.ending.specs.laws.StageEnd.{end-wanted-holds}
 use Rattle.questions.specs.declared.Question.{Question}
-use Rattle.questions.specs.declared.Question.the-variants.{Block, AnyState}
+use Rattle.questions.specs.declared.Question.the-variants.{Block, AnyState, Finish}
 use Rattle.questions.specs.declared.Due.{Due}
 use Rattle.questions.specs.declared.Walk.{Walk}
 use Rattle.questions.specs.Walk.{wholeFrames, sizeVerdict, framesIf, blockFrames, dueOf, roomOf, further, illegal, stepped, walked}
@@ -42,6 +43,7 @@ module _ (s : Stage) (n : ℕ) where
       go true = omega arith
       go false = wanted-most (s .kind) n b h
   wanted-fits AnyState b h = wanted-most (s .kind) n b h
+  wanted-fits Finish b h = le-trans (end-wanted-holds (s .kind) (s .memory) n b) (wanted-most (s .kind) n b h)
 
   pub delivered-within : (q : Question) (f : PcmFormat) → stageSuits f (s .kind) (s .memory) ≡ true → dueOf q s n .delivered ≤ framesWanted (s .kind) n
   unfolding dueOf
@@ -51,6 +53,7 @@ module _ (s : Stage) (n : ℕ) where
       go true = omega arith
       go false = wanted-holds f (s .memory) (s .kind) n h
   delivered-within AnyState f h = le-refl _
+  delivered-within Finish f h = end-wanted-holds (s .kind) (s .memory) n (suits-bounded f (s .kind) (s .memory) h)
 
 module _ (q : Question) (w : Walk) (s : Stage) where
   pub room-fits : w .frames ≤ 2400000000000 → (0 < w .format .channels) × (w .format .channels ≤ 2) → Bounded (s .kind) → roomOf q w s ≤ 3688000000000000000
