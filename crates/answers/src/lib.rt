@@ -1,8 +1,9 @@
-// What a block call answers: its numbers and values, the counters, the halves in turn, and the output as a part of one (pipeline.rs).
+// What a block or finish call answers: its numbers and values, the counters, the halves in turn, and the output as a part of one (pipeline.rs).
 ghost use mathlib.Core.Path.{_≡_};
 ghost use Prim.Native.Nat.{_≤_, _<_};
 ghost use lib.ListN.{length};
 ghost use Rattle.answers.specs.Answers.{countedUp, lastHalf, outputAnswer, shorterOf, frontOf, outputOf, halfNumber, silentTold, answerTold, scratchTold, countedIf, unstaged, nextStage};
+ghost use Rattle.answers.specs.FinishAnswers.{finishAnswer, silentFinishTold, finishTold};
 use pcm::Error;
 use pcm::PcmFormat;
 
@@ -90,6 +91,65 @@ impl Answer {
     }
 }
 
+// What a finish answers: as a block, with no timestamp.
+pub enum FinishAnswer {
+    Output {
+        format: PcmFormat,
+        half: Half,
+        len: usize,
+    },
+    NothingYet,
+    Refused(Error),
+}
+
+// Document 02's number and values of it. Outcome: 0 refused, 1 sound, 2 nothing yet; what follows it is zero but for sound.
+#[repr(C)]
+pub struct FinishTold {
+    pub number: u16,
+    pub outcome: u8,
+    pub needed: usize,
+    pub rate: u32,
+    pub channels: u16,
+    pub half: u8,
+    pub len: usize,
+}
+
+// What is told of a finish where there is no sound.
+fn silent_finish(number: u16, needed: usize, outcome: u8) -> FinishTold
+    ensures { λ r. ⌜ r ≡ silentFinishTold number needed outcome ⌝ }
+{
+    FinishTold {
+        number,
+        needed,
+        outcome,
+        rate: 0,
+        channels: 0,
+        half: 0,
+        len: 0,
+    }
+}
+
+impl FinishAnswer {
+    // Number and values of each case.
+    pub fn told(self) -> FinishTold
+        ensures { λ r. ⌜ r ≡ finishTold self ⌝ }
+    {
+        match self {
+            FinishAnswer::Output { format, half, len } => FinishTold {
+                number: 0,
+                needed: 0,
+                outcome: 1,
+                rate: format.rate,
+                channels: format.channels,
+                half: half.number(),
+                len,
+            },
+            FinishAnswer::NothingYet => silent_finish(0, 0, 2),
+            FinishAnswer::Refused(e) => silent_finish(e.number(), e.needed(), 0),
+        }
+    }
+}
+
 pub enum Scratch {
     Bytes(usize),
     Refused(Error),
@@ -165,6 +225,17 @@ pub fn answered(format: PcmFormat, timestamp: u64, count: usize, len: usize) -> 
         half,
         len,
     }
+}
+
+// The answer of an accepted finish of which so many bytes came out.
+pub fn finish_answered(format: PcmFormat, count: usize, len: usize) -> FinishAnswer
+    ensures { λ r. ⌜ r ≡ finishAnswer format (lastHalf count) len ⌝ }
+{
+    if len == 0 {
+        return FinishAnswer::NothingYet;
+    }
+    let half = last_half(count);
+    FinishAnswer::Output { format, half, len }
 }
 
 pub fn shorter_of(a: usize, b: usize) -> usize
