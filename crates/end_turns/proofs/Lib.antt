@@ -1,0 +1,2 @@
+mod Fronting
+mod ToEnd
