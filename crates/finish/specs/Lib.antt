@@ -1,0 +1,5 @@
+pub mod FinishCall
+pub mod Theorems
+pub mod Told
+pub mod Turns
+pub mod laws

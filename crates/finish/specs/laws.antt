@@ -1,0 +1,2 @@
+pub mod ChainEnd
+pub mod Stepping
