@@ -1,6 +1,6 @@
 /* A chain for 48,000 Hz mono: resample to 16,000 Hz, DC block at 20 Hz, low-pass at 3,000 Hz (q 0.707), gain 1.5.
- * Runs blocks of a made-up sound through it and prints the frames that come out; the output goes to the file named by the
- * first argument, if there is one. */
+ * Runs blocks of a made-up sound through it, finishes the stream and prints the frames that come out; the output goes to the
+ * file named by the first argument, if there is one. */
 #include "muzgleur.h"
 
 #include <stdbool.h>
@@ -32,23 +32,32 @@ static uint32_t chain[MUZGLEUR_CHAIN_WORDS];
 
 enum { WORDS = MUZGLEUR_CHAIN_WORDS };
 
-/* Blocks cut anyhow. */
-static void run_blocks(FILE *out) {
-    static const size_t frames[] = {480, 480, 1, 479, 1, 1, 480};
+/* What a block or the finish answered; its sound goes to the file. */
+static void show(uint8_t outcome, uint16_t number, size_t needed, uint8_t half, size_t len, FILE *out) {
+    if (outcome == MUZGLEUR_REFUSED) {
+        printf("refused: %u, needed %zu\n", number, needed);
+    } else if (outcome == MUZGLEUR_NOTHING_YET) {
+        printf("nothing yet\n");
+    } else {
+        printf("%3zu out in half %c\n", len / 2, half ? 'b' : 'a');
+        if (out) fwrite(half ? b : a, 1, len, out);
+    }
+}
+
+/* Blocks cut anyhow, 1,921 frames in all: an output falls on the last of them, which the finish delivers. */
+static void run_stream(FILE *out) {
+    static const size_t frames[] = {480, 480, 1, 479, 1, 1, 479};
     uint64_t at = 0;
     for (size_t i = 0; i < sizeof frames / sizeof *frames; i++) {
         made_up(sound, frames[i], at);
         muzgleur_block_result done = muzgleur_block(chain, WORDS, 48000, 1, at, sound, 2 * frames[i], a, sizeof a, b, sizeof b);
         at += frames[i];
-        if (done.outcome == MUZGLEUR_REFUSED) {
-            printf("%3zu frames in, refused: %u, needed %zu\n", frames[i], done.number, done.needed);
-        } else if (done.outcome == MUZGLEUR_NOTHING_YET) {
-            printf("%3zu frames in, nothing yet\n", frames[i]);
-        } else {
-            printf("%3zu frames in, %3zu out in half %c\n", frames[i], done.len / 2, done.half ? 'b' : 'a');
-            if (out) fwrite(done.half ? b : a, 1, done.len, out);
-        }
+        printf("%3zu frames in, ", frames[i]);
+        show(done.outcome, done.number, done.needed, done.half, done.len, out);
     }
+    muzgleur_finish_result last = muzgleur_finish(chain, WORDS, a, sizeof a, b, sizeof b);
+    printf("finish, ");
+    show(last.outcome, last.number, last.needed, last.half, last.len, out);
 }
 
 /* Calls that are refused; the chain stays as it was. */
@@ -86,7 +95,7 @@ int main(int argc, char **argv) {
         perror(argv[1]);
         return 1;
     }
-    run_blocks(out);
+    run_stream(out);
     if (out) fclose(out);
     bool kept = show_refusals();
     printf("after the refusals the chain is %s\n", kept ? "as it was" : "altered");

@@ -38,6 +38,16 @@ typedef struct {
 
 typedef struct {
     uint16_t number;
+    uint8_t outcome;
+    size_t needed;
+    uint32_t rate;
+    uint16_t channels;
+    uint8_t half; /* 0 is a, 1 is b */
+    size_t len;
+} muzgleur_finish_result;
+
+typedef struct {
+    uint16_t number;
     uint64_t blocks, empty_blocks;
 } muzgleur_counter_result;
 
@@ -64,6 +74,14 @@ uint16_t muzgleur_open(uint32_t rate, uint16_t channels, const uint8_t *recipe, 
 muzgleur_block_result muzgleur_block(uint32_t *chain, size_t chain_words, uint32_t rate, uint16_t channels,
                                      uint64_t timestamp, const uint8_t *sound, size_t sound_len, uint8_t *a, size_t a_len,
                                      uint8_t *b, size_t b_len);
+
+/* The end of the stream. A resampler delivers the output that falls exactly on its newest frame, if there is one; that frame
+ * runs on through the later stages, and they end in turn. SOUND: len bytes at the front of the half named, with no timestamp;
+ * NOTHING_YET: the last stage delivered nothing. The sound memory is then as after muzgleur_open, so that the next block begins
+ * a new stream; the counters do not move. One frame may become many, so halves by muzgleur_scratch_bytes need not suffice here.
+ * needed counts both halves together and is that of the first stage short. */
+muzgleur_finish_result muzgleur_finish(uint32_t *chain, size_t chain_words, uint8_t *a, size_t a_len, uint8_t *b,
+                                       size_t b_len);
 
 /* The sound memory cleared, the counters left alone. */
 uint16_t muzgleur_reset(uint32_t *chain, size_t chain_words);

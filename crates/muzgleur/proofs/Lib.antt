@@ -1,2 +1,2 @@
 mod Opened
-mod Stands
+mod Words

@@ -11,22 +11,15 @@ use Rattle.pcm.specs.Frames.{written}
 use Rattle.pcm.specs.Refusals.{refusal}
 use Rattle.pipeline.specs.declared.Pipeline.{Pipeline}
 use Rattle.pipeline.specs.declared.Opened.{Opened}
-use Rattle.pipeline.specs.Reset.{resetCall}
-use Rattle.pipeline.specs.WritingBack.{stagesOf}
 use Rattle.answers.specs.declared.Told.{Told}
 use Rattle.answers.specs.declared.Scratch.{Scratch}
 use Rattle.block.specs.BlockCall.{Result}
 use Rattle.answers.specs.Answers.{answerTold, scratchTold}
-use Rattle.chain_words.specs.Kept.{withSound}
-use Rattle.chain_words.specs.Layout.{wordsOf, stands, chainOfWords}
+use Rattle.word_finish.specs.Words.{Outcome}
+use Rattle.chain_words.specs.Layout.{wordsOf}
 use Rattle.muzgleur.specs.declared.CounterResult.{CounterResult}
 use Rattle.muzgleur.specs.declared.Format.{Format}
 use Rattle.muzgleur.specs.declared.ScratchResult.{ScratchResult}
-
--- 0 or a refusal's number, and the words afterwards
-pub record Outcome : Type 0 where
-  pub number : ℕ
-  pub words : List ℕ
 
 -- ---- opening: the chain to the front of the words; a refusal alters none
 abbrev pub openedWords : List ℕ → Verdict → Pipeline → Outcome
@@ -49,14 +42,6 @@ abbrev pub blockOutcome : Result → BlockOutcome
 blockOutcome r = record { result = answerTold (r .answer); chain = r .chain; a = r .a; b = r .b }
 
 -- ---- the other calls
--- the memories of the stages in use and both counters to their words; every other word stays
-abbrev pub soundWords : List ℕ → Pipeline → List ℕ
-soundWords w c = withSound w (stagesOf c) (c .blocks) (c .«empty_blocks»)
-
--- words that stand for no chain are 1, and stay
-abbrev pub resetOutcome : List ℕ → Outcome
-resetOutcome w = cond (stands w) (record { number = 0; words = soundWords w (resetCall (chainOfWords w)) }) (record { number = 1; words = w })
-
 abbrev pub counterResult : Bool → Pipeline → CounterResult
 counterResult known c = record { number = cond known 0 1; blocks = c .blocks; «empty_blocks» = c .«empty_blocks» }
 

@@ -6,7 +6,10 @@ ghost use Rattle.pipeline.specs.WritingBack.{writeCall, writeTold};
 ghost use Rattle.block.specs.BlockCall.{blockCall, scratchBytes};
 ghost use Rattle.chain_words.specs.Layout.{stands, chainOfWords};
 ghost use Rattle.word_block.specs.Words.{SettingsStay};
-ghost use Rattle.muzgleur.specs.Results.{openOutcome, blockOutcome, resetOutcome, counterResult, formatResult, scratchResult};
+ghost use Rattle.finish.specs.FinishCall.{finishCall};
+ghost use Rattle.word_finish.specs.Words.{resetOutcome, finishOutcome, finishWords};
+ghost use Rattle.muzgleur.specs.Results.{openOutcome, blockOutcome, counterResult, formatResult, scratchResult};
+use answers::FinishTold;
 use answers::Told;
 use pcm::PcmFormat;
 use pcm::Verdict;
@@ -73,19 +76,25 @@ pub extern "C" fn muzgleur_block(
     word_block::process(chain, format, timestamp, sound, a, b).told()
 }
 
+// The end of the stream: each resampler's last frame, where an output falls on it, runs on through the later stages. The output, where
+// there is one, stands at the front of the half named, and the words stand for the chain with its sound memory cleared and its counters
+// as they were. A refusal alters nothing. A stage can deliver more here than of any block before: halves by `muzgleur_scratch_bytes`
+// need not suffice.
+#[no_mangle]
+pub extern "C" fn muzgleur_finish(chain: &mut [u32], a: &mut [u8], b: &mut [u8]) -> FinishTold
+    ensures all { λ r. ⌜ record { result = r; chain = chainOfWords (now (chain .exit)); a = now (a .exit); b = now (b .exit) } ≡ finishOutcome (finishCall (chainOfWords (now (chain .entry))) (now (a .entry)) (now (b .entry))) ⌝ }
+    ensures words { λ r. ⌜ now (chain .exit) ≡ finishWords (r .outcome) (now (chain .entry)) ⌝ }
+{
+    word_finish::finish(chain, a, b)
+}
+
 // The sound memory cleared, the counters left alone. Words that stand for no chain are 1, and stay.
 #[no_mangle]
 pub extern "C" fn muzgleur_reset(chain: &mut [u32]) -> u16
     ensures all { λ r. ⌜ record { number = r; words = now (chain .exit) } ≡ resetOutcome (now (chain .entry)) ⌝ }
     ensures chain { λ _. ⌜ chainOfWords (now (chain .exit)) ≡ resetCall (chainOfWords (now (chain .entry))) ⌝ }
 {
-    if chain_words::stand(chain) {
-        let own = chain_words::chain_of(chain);
-        let after = own.reset();
-        chain_words::put_sound(chain, after);
-        return 0;
-    }
-    1
+    word_finish::reset(chain)
 }
 
 // How many blocks were accepted, and how many of them brought nothing.

@@ -1,5 +1,6 @@
--- Lists of calls on a chain (document 01, 'The whole stream'): each is the block call or reset as their promises define them. Definitions only.
-use mathlib.Core.List.{List, [], _∷_, _++_}
+-- Calls on a chain (document 01, 'The whole stream'; document 02, Q-1): each is the block call, reset or finish as their promises define them.
+-- Definitions only.
+use mathlib.Core.List.{List, [], _++_}
 use Prim.Native.Nat.{ℕ}
 use Rattle.pcm.specs.declared.PcmFormat.{PcmFormat}
 use Rattle.pcm.specs.Samples.{Bytes}
@@ -9,16 +10,21 @@ use Rattle.answers.specs.declared.Answer.{Answer}
 use Rattle.answers.specs.declared.Answer.the-variants as answer
 use Rattle.block.specs.BlockCall.{Result, blockCall}
 use Rattle.answers.specs.Answers.{outputOf}
+use Rattle.answers.specs.declared.FinishAnswer.{FinishAnswer}
+use Rattle.answers.specs.declared.FinishAnswer.the-variants as finished
+use Rattle.finish.specs.FinishCall.{FinishResult, finishCall}
 
--- every call brings its own block and halves, of any bytes and lengths: format, timestamp, block, half a, half b
+-- every call brings its own block and halves, of any bytes and lengths: format, timestamp, block, half a, half b; finish its two halves alone
 pub data Call : Type 0 where
   block : PcmFormat → ℕ → List ℕ → List ℕ → List ℕ → Call
   reset : Call
+  finish : List ℕ → List ℕ → Call
 
 -- the block that is lent has bytes
 abbrev pub Lent : Call → Type 0
 Lent (block format timestamp bytes a b) = Bytes bytes
 Lent reset = Unit {0}
+Lent (finish a b) = Unit {0}
 
 -- ---- a call's output, as the small call hands it back on return; 'nothing yet' or a number has empty output
 abbrev pub outputBy : Answer → Result → List ℕ
@@ -29,8 +35,16 @@ outputBy (answer.Refused e) r = []
 abbrev pub callOutput : Result → List ℕ
 callOutput r = outputBy (r .answer) r
 
--- ---- one call after another
--- the chain, and the output joined since it was opened or last reset
+abbrev pub finishOutputBy : FinishAnswer → FinishResult → List ℕ
+finishOutputBy (finished.Output format side len) r = outputOf side len (r .a) (r .b)
+finishOutputBy finished.NothingYet r = []
+finishOutputBy (finished.Refused e) r = []
+
+abbrev pub finishOutput : FinishResult → List ℕ
+finishOutput r = finishOutputBy (r .answer) r
+
+-- ---- one call
+-- the chain, and the output joined since its stream began
 pub record Run : Type 0 where
   pub chain : Pipeline
   pub joined : List ℕ
@@ -38,14 +52,10 @@ pub record Run : Type 0 where
 abbrev pub joinedBy : List ℕ → Result → Run
 joinedBy joined r = record { chain = r .chain; joined = joined ++ callOutput r }
 
+abbrev pub finishedBy : List ℕ → FinishResult → Run
+finishedBy joined r = record { chain = r .chain; joined = joined ++ finishOutput r }
+
 abbrev pub afterCall : Run → Call → Run
 afterCall r (block format timestamp bytes a b) = joinedBy (r .joined) (blockCall (r .chain) format timestamp bytes a b)
 afterCall r reset = record { chain = resetCall (r .chain); joined = [] }
-
-abbrev pub afterCalls : Run → List Call → Run
-afterCalls r [] = r
-afterCalls r (call ∷ calls) = afterCalls (afterCall r call) calls
-
--- the calls on the chain o
-abbrev pub runOf : Pipeline → List Call → Run
-runOf o calls = afterCalls (record { chain = o; joined = [] }) calls
+afterCall r (finish a b) = finishedBy (r .joined) (finishCall (r .chain) a b)

@@ -1,9 +1,10 @@
--- Document 01's example (f) by calls on the chain of its recipe's bytes, with a refused block and resets among them. Assumes nothing.
+-- Document 01's example (f) by calls on the chain of its recipe's bytes, with a refused block, a reset and finishes among them. Assumes nothing.
 use mathlib.Core.Path.{_≡_, refl, ap, _∙_}
-use mathlib.Core.List.{List, [], _∷_, map}
+use mathlib.Core.List.{List, [], _∷_, _++_, map}
 use Prim.Native.Nat.{ℕ}
 use lib.IntN.{pos}
 use Rattle.pcm.specs.declared.PcmFormat.{PcmFormat}
+use Rattle.pcm.specs.declared.Error.the-variants.{BufferTooSmall}
 use Rattle.pcm.specs.declared.Verdict.the-variants.{Accepted}
 use Rattle.pcm.specs.Formats.{rateAllowed, channelsAllowed, formatAllowed}
 use Rattle.pcm.specs.Samples.{sampleOf, lowOf, highOf}
@@ -22,12 +23,18 @@ use Rattle.pipeline.specs.declared.Opened.{Opened}
 use Rattle.pipeline.specs.Opening.{openStages, chainOf, openCall}
 use Rattle.pipeline.specs.Reset.{formatLeaving}
 use Rattle.answers.specs.declared.Answer.the-variants.{NothingYet}
+use Rattle.answers.specs.declared.FinishAnswer.the-variants as finished
 use Rattle.block.specs.BlockCall.{suited, legal, roomsVerdict, blockVerdict, passed, accepted, Result, blockCall}
-use Rattle.stream.specs.Calls.{Call, block, reset, callOutput, runOf}
+use Rattle.ending.specs.ResamplerEnd.{onLast, wholeLast, heldLast, resamplerEnd, endCount, endFrameCount}
+use Rattle.ending.specs.StageEnd.{stageEnd, framesAtEnd}
+use Rattle.finish.specs.FinishCall as finishing
+use Rattle.finish.specs.FinishCall.{chainEnd, roomAtEnd, endVerdict, finishVerdict, endedHalves, finishCall}
+use Rattle.stream.specs.Calls.{Call, block, reset, finish, callOutput, finishOutput}
 use Rattle.stream.specs.Opened.{kindsIn}
-use Rattle.stream.specs.PlainChain.{plainStage, plainOut}
+use Rattle.stream.specs.PlainChain.{plainStage, through, plainOut}
 use Rattle.stream.specs.PlainRoom.{plainRoom, plainVerdict}
-use Rattle.stream.specs.Stream.{streamOf}
+use Rattle.stream.specs.PlainEnd.{plainLast, plainEnded, plainEnd, plainEndRoom}
+use Rattle.stream.specs.Stream.{running, ended, streamOf, runOf}
 use Rattle.stream.specs.WholeStream.{WholeStream}
 use Rattle.stream.specs.Theorems.{whole-stream}
 use Rattle.stream.specs.laws.Calls.{all-lent}
@@ -67,6 +74,17 @@ cut-f = (
   ap (λ (c : Pipeline). callOutput (played (played c (0 ∷ 0 ∷ []) .chain) (100 ∷ 0 ∷ 50 ∷ 0 ∷ []))) chain-f,
 )
 
+-- then finish delivers 50; with a half of one byte it is 3, and needed is 4
+abbrev waiting : Pipeline → Pipeline
+waiting c = played (played c (0 ∷ 0 ∷ []) .chain) (100 ∷ 0 ∷ 50 ∷ 0 ∷ []) .chain
+
+end-f : (finishOutput (finishCall (waiting opened) lentHalf lentHalf) ≡ 50 ∷ 0 ∷ []) × (finishCall (waiting opened) (7 ∷ []) lentHalf .answer ≡ finished.Refused (BufferTooSmall 4))
+unfolding blockCall blockVerdict legal suited stageSuits ratesSuit ratesAllowed rateAllowed channelsAllowed formatAllowed roomsVerdict roomWanted framesWanted framesOut resampledCount carriedCount roomFrames accepted passed written bytesOf framesOf sampleOf lowOf highOf formatLeaving stageOut stageNext resampled stateAfter carriedOutputs outputsFrom carriedState among firstAt outputAt blend interpolated reduced gcd largestDivisor chainOf heldLast resamplerEnd endCount endFrameCount stageEnd framesAtEnd chainEnd roomAtEnd endVerdict finishVerdict endedHalves finishing.finished finishCall
+end-f = (
+  ap (λ (c : Pipeline). finishOutput (finishCall (waiting c) lentHalf lentHalf)) chain-f,
+  ap (λ (c : Pipeline). finishCall (waiting c) (7 ∷ []) lentHalf .answer) chain-f,
+)
+
 -- ---- `whole-stream` at work
 abbrev call : List ℕ → Call
 call bytes = block mono8000 0 bytes lentHalf lentHalf
@@ -78,17 +96,41 @@ calls = call (9 ∷ 0 ∷ 9 ∷ 0 ∷ []) ∷ reset ∷ call (0 ∷ 0 ∷ []) �
 abbrev frames : List Frame
 frames = map (λ (x : ℕ). pos x ∷ []) (0 ∷ 100 ∷ 50 ∷ [])
 
-stream-f : streamOf opened calls ≡ frames
+stream-f : streamOf opened calls ≡ running frames
 unfolding plainVerdict plainRoom plainStage resampledWhole wholeOutputs outputAt blend interpolated reduced gcd largestDivisor framesWanted roomWanted roomFrames framesOf sampleOf rateAllowed channelsAllowed formatAllowed chainOf
 stream-f = ap (λ (c : Pipeline). streamOf c calls) chain-f
 
-whole-f : WholeStream opened frames (runOf opened calls)
+whole-f : WholeStream opened (running frames) (runOf opened calls)
 whole-f = rw stream-f at (whole-stream mono8000 recipe (ap (λ (x : Opened). x .verdict) opened-f) calls (all-lent calls refl))
 
 -- 0, 50, 100, 75
 plain-f : bytesOf (plainOut (kindsIn opened) frames) ≡ 0 ∷ 0 ∷ 50 ∷ 0 ∷ 100 ∷ 0 ∷ 75 ∷ 0 ∷ []
-unfolding plainOut plainStage resampledWhole wholeOutputs outputAt blend interpolated reduced gcd largestDivisor bytesOf lowOf highOf chainOf
+unfolding through plainStage resampledWhole wholeOutputs outputAt blend interpolated reduced gcd largestDivisor bytesOf lowOf highOf chainOf
 plain-f = ap (λ (c : Pipeline). bytesOf (plainOut (kindsIn c) frames)) chain-f
 
 output-f : runOf opened calls .joined ≡ 0 ∷ 0 ∷ 50 ∷ 0 ∷ 100 ∷ 0 ∷ 75 ∷ 0 ∷ []
-output-f = whole-f .output ∙ plain-f
+output-f = whole-f .compared .output ∙ plain-f
+
+-- a refused finish, and one that ends the stream
+abbrev finishedCalls : List Call
+finishedCalls = calls ++ (finish (7 ∷ []) lentHalf ∷ finish lentHalf lentHalf ∷ [])
+
+stream-ended-f : streamOf opened finishedCalls ≡ ended frames
+unfolding plainVerdict plainRoom plainStage plainLast plainEnded plainEndRoom onLast wholeLast resampledWhole wholeOutputs outputAt blend interpolated reduced gcd largestDivisor framesWanted roomWanted roomFrames framesOf sampleOf rateAllowed channelsAllowed formatAllowed chainOf
+stream-ended-f = ap (λ (c : Pipeline). streamOf c finishedCalls) chain-f
+
+whole-ended-f : WholeStream opened (ended frames) (runOf opened finishedCalls)
+whole-ended-f = rw stream-ended-f at (whole-stream mono8000 recipe (ap (λ (x : Opened). x .verdict) opened-f) finishedCalls (all-lent finishedCalls refl))
+
+-- 0, 50, 100, 75, 50
+plain-ended-f : bytesOf (plainEnd (kindsIn opened) frames) ≡ 0 ∷ 0 ∷ 50 ∷ 0 ∷ 100 ∷ 0 ∷ 75 ∷ 0 ∷ 50 ∷ 0 ∷ []
+unfolding through plainStage plainLast plainEnded onLast wholeLast resampledWhole wholeOutputs outputAt blend interpolated reduced gcd largestDivisor bytesOf lowOf highOf chainOf
+plain-ended-f = ap (λ (c : Pipeline). bytesOf (plainEnd (kindsIn c) frames)) chain-f
+
+output-ended-f : runOf opened finishedCalls .joined ≡ 0 ∷ 0 ∷ 50 ∷ 0 ∷ 100 ∷ 0 ∷ 75 ∷ 0 ∷ 50 ∷ 0 ∷ []
+output-ended-f = whole-ended-f .compared .output ∙ plain-ended-f
+
+-- a call after it begins a new stream
+stream-after-f : streamOf opened (finishedCalls ++ (call (9 ∷ 0 ∷ []) ∷ [])) ≡ running ((pos 9 ∷ []) ∷ [])
+unfolding plainVerdict plainRoom plainStage plainLast plainEnded plainEndRoom onLast wholeLast resampledWhole wholeOutputs outputAt blend interpolated reduced gcd largestDivisor framesWanted roomWanted roomFrames framesOf sampleOf rateAllowed channelsAllowed formatAllowed chainOf
+stream-after-f = ap (λ (c : Pipeline). streamOf c (finishedCalls ++ (call (9 ∷ 0 ∷ []) ∷ []))) chain-f

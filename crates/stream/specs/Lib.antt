@@ -1,9 +1,11 @@
 pub mod Calls
 pub mod Counters
 pub mod Examples
+pub mod FromChain
 pub mod OneCall
 pub mod Opened
 pub mod PlainChain
+pub mod PlainEnd
 pub mod PlainRoom
 pub mod Resamplers
 pub mod Stream

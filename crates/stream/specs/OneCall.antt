@@ -10,13 +10,12 @@ use Rattle.pipeline.specs.declared.Pipeline.{Pipeline}
 use Rattle.answers.specs.declared.Half.{Half}
 use Rattle.answers.specs.declared.Half.the-variants as half
 use Rattle.turns.specs.Turns.{Halves}
-use Rattle.block.specs.BlockCall.{Result}
 use Rattle.pipeline.specs.WritingBack.{stagesOf}
 
 -- ---- the half that the last stage wrote to holds its bytes
-abbrev pub sideOf : Half → Result → List ℕ
-sideOf half.A r = r .a
-sideOf half.B r = r .b
+abbrev pub sideOf : Half → List ℕ → List ℕ → List ℕ
+sideOf half.A a b = a
+sideOf half.B a b = b
 
 abbrev pub side : ℕ → Halves → List ℕ
 side i h = cond (eqb (i % 2) 0) (h .a) (h .b)

@@ -38,9 +38,12 @@ plainMemory (kind.Biquad b) X = record { filter = memoryNext (biquadTick (b .coe
 
 -- ---- the chain
 -- stage 1 takes the whole stream, each later stage all that the one before makes of it; the stream itself where there are no stages
-unfoldable pub plainOut : List StageKind → List Frame → List Frame
-plainOut [] X = X
-plainOut (k ∷ ks) X = plainOut ks (plainStage k X)
+unfoldable pub through : (StageKind → List Frame → List Frame) → List StageKind → List Frame → List Frame
+through makes [] X = X
+through makes (k ∷ ks) X = through makes ks (makes k X)
+
+abbrev pub plainOut : List StageKind → List Frame → List Frame
+plainOut ks X = through plainStage ks X
 
 -- every stage with its sound state
 unfoldable pub plainState : List StageKind → List Frame → List Stage

@@ -1,11 +1,10 @@
 -- What the definitions come to: the chief theorems of this crate. Assumes nothing.
 use mathlib.Core.Path.{_≡_, refl, sym, ap, _∙_}
 use mathlib.Core.Bool.{Bool, true, false}
-use mathlib.Core.List.{List, [], _∷_}
-use Prim.Native.Nat.{ℕ, _*_, _≤_, zero, suc}
+use mathlib.Core.List.{List, [], _∷_, map}
+use Prim.Native.Nat.{ℕ, _*_, _≤_}
 use native.Mathlib.Omega.{arith}
 use borrow.Author.Tests.{le-leb}
-use lib.Dec.{leb}
 use lib.ListN.{length, drop}
 use native.Mathlib.Nat.{zero-add}
 use Rattle.pcm.specs.declared.PcmFormat.{PcmFormat}
@@ -18,13 +17,14 @@ use Rattle.stream.specs.Opened.{FreshlyOpened, kindsIn}
 use Rattle.pipeline.specs.laws.Opening.{zero-not-one}
 use Rattle.stream.specs.laws.Opening.{stages-opened, stages-chain}
 use Rattle.pcm.specs.Samples.{All, Bytes}
-use Rattle.stream.specs.Calls.{Call, Lent, runOf}
-use Rattle.stream.specs.Stream.{streamOf}
+use Rattle.stream.specs.Calls.{Call, Lent, Run}
+use Rattle.stream.specs.Stream.{running, fed, within, streamOf, runOf}
+use Rattle.stream.specs.FromChain.{Since}
+use Rattle.stream.specs.laws.FromChain.{begun}
 use Rattle.stream.specs.WholeStream.{WholeStream}
 use Rattle.stream.specs.laws.WholeStream.{whole-stream-of}
 use Rattle.pcm.specs.Frames.{written, Frame}
-use Rattle.stage.specs.Stages.{kindsOf}
-use Rattle.pcm.specs.laws.Tests.{both}
+use Rattle.stage.specs.Stages.{kindsOf, stageClear}
 use Rattle.pipeline.specs.declared.Pipeline.{Pipeline}
 use Rattle.pipeline.specs.declared.Opened.{Opened}
 use Rattle.pipeline.specs.declared.WriteAnswer.the-variants as answer
@@ -36,13 +36,19 @@ use Rattle.answers.specs.declared.Scratch.the-variants as scratch
 use Rattle.block.specs.BlockCall.{legal, blockVerdict, scratchBytes}
 use Rattle.block.specs.laws.Bounds.{legal-parts}
 use Rattle.block.specs.Theorems.{scratch-suffices}
-use Rattle.stream.specs.laws.PlainRoom.{suited-still}
-use Rattle.stream.specs.laws.AfterCalls.{suit, begun}
+use Rattle.block.specs.Chain.{chainNext}
+use Rattle.block.specs.laws.Chain.{chain-next-nil}
+use Rattle.answers.specs.declared.FinishAnswer.the-variants as finish
+use Rattle.finish.specs.FinishCall.{finishCall}
+use Rattle.finish.specs.Theorems.{nothing-due}
+use Rattle.stream.specs.laws.AfterCalls.{state-plain, legal-since, stands-within, after-all}
 use Rattle.stream.specs.laws.Afterwards.{kinds-of-state}
 use Rattle.stream.specs.Counters.{heldCount, acceptedBlocks, nothingFrom}
 use Rattle.stream.specs.laws.Counters.{nothing-calls, counted-calls, open-counters}
 use Rattle.stage.specs.declared.StageKind.{StageKind}
-use Rattle.stream.specs.PlainChain.{plainStage, plainOut, receivedBy, deliveredBy}
+use Rattle.stream.specs.PlainChain.{plainStage, receivedBy, deliveredBy}
+use Rattle.stream.specs.laws.PlainChain.{through-stage}
+use Rattle.stream.specs.PlainEnd.{plainEnded, receivedAtEnd, deliveredAtEnd}
 
 pub opened-chain : (f : PcmFormat) (recipe : List ℕ) → openCall f recipe .verdict ≡ Accepted → FreshlyOpened (openCall f recipe .chain)
 unfolding openCall
@@ -57,7 +63,7 @@ opened-chain f recipe h = go (formatAllowed f) refl h
 pub opened-is-legal : (f : PcmFormat) (recipe : List ℕ) → openCall f recipe .verdict ≡ Accepted → legal (openCall f recipe .chain) ≡ true
 opened-is-legal f recipe h = opened-chain f recipe h .lawful
 
--- whatever the format and the recipe that opening accepts, the block and reset calls, and the blocks and halves that they bring
+-- whatever the format and the recipe that opening accepts, the block, reset and finish calls, and the blocks and halves that they bring
 pub whole-stream : (f : PcmFormat) (recipe : List ℕ) → openCall f recipe .verdict ≡ Accepted → (calls : List Call) → All Lent calls
     → WholeStream (openCall f recipe .chain) (streamOf (openCall f recipe .chain) calls) (runOf (openCall f recipe .chain) calls)
 whole-stream f recipe h calls lent = whole-stream-of (openCall f recipe .chain) (opened-chain f recipe h) calls lent
@@ -73,19 +79,19 @@ module _ (f : PcmFormat) (recipe : List ℕ) (h : openCall f recipe .verdict ≡
   whole : WholeStream o (streamOf o calls) (runOf o calls)
   whole = whole-stream f recipe h calls lent
 
+  -- the chain as the next call finds it
+  next-call : Since o (fed (streamOf o calls)) (within (streamOf o calls) (runOf o calls))
+  next-call = stands-within o (opened-chain f recipe h) (streamOf o calls) (runOf o calls) (after-all o (opened-chain f recipe h) calls lent)
+
   kinds-kept : kindsIn c ≡ kindsIn o
-  kinds-kept = ap kindsOf (whole .state) ∙ kinds-of-state (kindsIn o) (streamOf o calls)
+  kinds-kept = ap kindsOf (state-plain o (opened-chain f recipe h) next-call) ∙ kinds-of-state (kindsIn o) (fed (streamOf o calls))
 
   few : c .count ≤ 8
   few = omega (arith, whole .count, legal-parts o (opened-chain f recipe h .lawful) .few)
 
   -- and stays one, whatever the calls
   pub still-legal : legal c ≡ true
-  unfolding legal
-  still-legal =
-      let p = both (leb (o .count) 8) _ (opened-is-legal f recipe h) in
-      let q = both (formatAllowed (o .format)) _ (p .1) in
-      rw (le-leb (c .count) 8 few, whole .format, q .0, whole .state) (suited-still (o .format) (kindsIn o) (streamOf o calls) (suit o (opened-chain f recipe h)))
+  still-legal = legal-since o (opened-chain f recipe h) next-call
 
   as-answered : openCall f recipe ≡ record { verdict = Accepted; chain = o }
   as-answered = ap (λ v. let r : Opened = record { verdict = v; chain = o } in r) h
@@ -104,27 +110,34 @@ module _ (f : PcmFormat) (recipe : List ℕ) (h : openCall f recipe .verdict ≡
       scratch-suffices o c format size figure short (sym (whole .format)) (sym kinds-kept)
       still-legal e room three
 
--- `blocks` grows with each accepted call; reset clears sound state, not counters
+  -- with no frames since opening, the last reset or the last accepted finish, a finish is 'nothing yet' and alters nothing, whatever the halves
+  pub nothing-to-finish : fed (streamOf o calls) ≡ [] → (a b : List ℕ) → finishCall c a b ≡ record { chain = c; answer = finish.NothingYet; a = a; b = b }
+  nothing-to-finish e a b =
+      let s : stagesOf c ≡ stagesOf o = next-call .moved .stages ∙ ap (chainNext (stagesOf o)) e ∙ chain-next-nil (stagesOf o) in
+      nothing-due c still-legal (s ∙ opened-chain f recipe h .silent ∙ ap (map stageClear) (sym s)) a b
+
+-- `blocks` grows with each accepted block; reset and finish clear sound state, not counters
 pub blocks-counted : (f : PcmFormat) (recipe : List ℕ) → openCall f recipe .verdict ≡ Accepted → (calls : List Call) → All Lent calls
     → runOf (openCall f recipe .chain) calls .chain .blocks ≡ heldCount (acceptedBlocks (openCall f recipe .chain) calls)
 unfolding heldCount
 blocks-counted f recipe h calls lent =
     let w : FreshlyOpened (openCall f recipe .chain) = opened-chain f recipe h in
-    counted-calls (openCall f recipe .chain) w [] (record { chain = openCall f recipe .chain; joined = [] }) calls 0 (begun (openCall f recipe .chain) w) lent (open-counters f recipe .0)
+    counted-calls (openCall f recipe .chain) w (running []) (record { chain = openCall f recipe .chain; joined = [] }) calls 0 (begun (openCall f recipe .chain) (w .places)) lent (open-counters f recipe .0)
     ∙ ap heldCount (zero-add (acceptedBlocks (openCall f recipe .chain) calls))
 
--- `empty_blocks` grows with each 'nothing yet'
+-- `empty_blocks` grows with each block that answers 'nothing yet'
 pub empty-blocks-counted : (f : PcmFormat) (recipe : List ℕ) (calls : List Call)
     → runOf (openCall f recipe .chain) calls .chain .«empty_blocks» ≡ heldCount (nothingFrom (record { chain = openCall f recipe .chain; joined = [] }) calls)
 unfolding heldCount
 empty-blocks-counted f recipe calls =
-    nothing-calls (record { chain = openCall f recipe .chain; joined = [] }) calls 0 (open-counters f recipe .1) ∙ ap heldCount (zero-add (nothingFrom (record { chain = openCall f recipe .chain; joined = [] }) calls))
+    let r : Run = record { chain = openCall f recipe .chain; joined = [] } in
+    nothing-calls (openCall f recipe .chain) (running []) r r calls 0 refl (open-counters f recipe .1) ∙ ap heldCount (zero-add (nothingFrom r calls))
 
 -- ---- the stage with i stages before it delivers what its definition makes of what it has received
-pub delivered-of-received : (i : ℕ) (ks : List StageKind) (k : StageKind) (rest : List StageKind) (X : List Frame)
-    → drop i ks ≡ k ∷ rest → deliveredBy i ks X ≡ plainStage k (receivedBy i ks X)
-unfolding plainOut
-delivered-of-received zero [] k rest X e = cc
-delivered-of-received zero (j ∷ ks) k rest X e = ap (λ (h : StageKind). plainStage h X) (cc)
-delivered-of-received (suc i) [] k rest X e = cc
-delivered-of-received (suc i) (j ∷ ks) k rest X e = delivered-of-received i ks k rest (plainStage j X) e
+module _ (i : ℕ) (ks : List StageKind) (k : StageKind) (rest : List StageKind) (X : List Frame) (e : drop i ks ≡ k ∷ rest) where
+  pub delivered-of-received : deliveredBy i ks X ≡ plainStage k (receivedBy i ks X)
+  delivered-of-received = through-stage plainStage i ks k rest X e
+
+  -- and, where it ends, its last frame after it
+  pub delivered-at-end : deliveredAtEnd i ks X ≡ plainEnded k (receivedAtEnd i ks X)
+  delivered-at-end = through-stage plainEnded i ks k rest X e

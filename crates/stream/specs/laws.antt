@@ -2,10 +2,12 @@ pub mod AfterCalls
 pub mod Afterwards
 pub mod Calls
 pub mod Counters
+pub mod FromChain
 pub mod OneCall
 pub mod Opened
 pub mod Opening
 pub mod PlainChain
+pub mod PlainEnd
 pub mod PlainRoom
 pub mod Resamplers
 pub mod WholeStream

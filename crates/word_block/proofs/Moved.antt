@@ -16,11 +16,6 @@ use Rattle.chain_words.specs.laws.Places.{other-place}
 use Rattle.chain_words.specs.laws.Keeping.{same-stages, same-kinds, counters-written, counters-apart, stages-apart}
 use Rattle.word_block.specs.Words.{SettingsStay}
 
--- ---- the chain that words stand for
-pub eight : (w : List ℕ) → length (chainAt w .stages) ≡ 8
-unfolding chainAt
-eight w = refl
-
 -- its stages by their number
 pub stage-of-eight : (w : List ℕ) (i : ℕ) (d : Stage) → i < 8 → getD (chainAt w .stages) i d ≡ stageAt w i
 unfolding chainAt

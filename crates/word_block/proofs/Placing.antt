@@ -32,7 +32,8 @@ use Rattle.stage_words.specs.laws.Small.{small-next}
 use Rattle.chain_words.specs.Layout.{counterWords, stageAt, formatOf, counterAt, chainAt, stands, chainOfWords}
 use Rattle.chain_words.specs.laws.Chains.{stands-long, stands-chain}
 use Rattle.word_block.specs.Words.{SettingsStay}
-use Rattle.word_block.proofs.Moved.{Moved, eight, stage-of-eight, chain-put, settings-stay, chain-counted, stays-stand}
+use Rattle.word_block.specs.laws.Heads.{eight}
+use Rattle.word_block.proofs.Moved.{Moved, stage-of-eight, chain-put, settings-stay, chain-counted, stays-stand}
 
 -- stage i + 1 of the words w was read: its kind and its memory
 module _ (w : List ℕ) (i : ℕ) (k : StageKind) (m : SoundMemory) (ek : k ≡ stageAt w i .kind) (em : m ≡ stageAt w i .memory) where

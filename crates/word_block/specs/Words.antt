@@ -1,12 +1,19 @@
--- What a block leaves of the words beside the chain that they stand for. Definitions only.
+-- Which words a call's questions go on with, and what a block leaves of them beside the chain that they stand for. Definitions only.
 use mathlib.Core.Path.{_≡_}
+use mathlib.Core.Bool.{Bool, _&&_}
 use mathlib.Core.List.{List}
 use Prim.Native.Nat.{ℕ, _+_, _*_, _≤_, _<_}
 use lib.ListN.{length}
 use Rattle.answers.specs.declared.Answer.{Answer}
 use Rattle.answers.specs.declared.Answer.the-variants as answer
 use Rattle.questions.specs.declared.Walk.{Walk}
+use Rattle.questions.specs.Walk.{headLegal}
 use Rattle.stage_words.specs.Layout.{word}
+use Rattle.chain_words.specs.Layout.{formatOf, stands}
+
+-- the words stand for a chain whose count and format are within their limits
+unfoldable pub legalHead : List ℕ → Bool
+legalHead w = stands w && headLegal (formatOf w) (word w 0)
 
 -- only counters and memories of stages in use are altered: as many words as before, count, rate and channels, the word that is zero,
 -- kind and settings of each stage, and all words past the stages in use stay

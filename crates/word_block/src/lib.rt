@@ -12,7 +12,7 @@ ghost use Rattle.block.specs.Turns.{Accepts};
 ghost use Rattle.questions.specs.Walk.{walked};
 ghost use Rattle.block.specs.laws.Asking.{Asks};
 ghost use Rattle.chain_words.specs.Layout.{counterWords, counterAt, chainAt, stands, chainOfWords};
-ghost use Rattle.word_block.specs.Words.{SettingsStay, WordsAfter, Walked};
+ghost use Rattle.word_block.specs.Words.{legalHead, SettingsStay, WordsAfter, Walked};
 use answers::Answer;
 use answers::Scratch;
 use pcm::Error;
@@ -22,8 +22,19 @@ use questions::Question;
 use questions::Walk;
 use stage::Stage;
 
+// Do the words stand for a chain whose count and format are within their limits?
+pub fn legal_head(words: &[u32]) -> bool
+    ensures { λ r. ⌜ r ≡ legalHead (now (words .entry)) ⌝ }
+{
+    if chain_words::stand(words) {
+        let own = chain_words::format_of(words);
+        return questions::head_legal(own, chain_words::count_of(words));
+    }
+    false
+}
+
 // The questions of `count` stages, from the walk before the first of them.
-fn walked(words: &[u32], count: usize, question: Question, shorter: usize, start: Walk) -> Walk
+pub fn walked(words: &[u32], count: usize, question: Question, shorter: usize, start: Walk) -> Walk
     requires { ⌜ (152 ≤ length (now words)) × Asks question shorter (start .format .rate) (chainAt (now words) .stages) count start start 0 ⌝ }
     ensures { λ r. ⌜ Walked r (walked question shorter start (take count (chainAt (now (words .entry)) .stages))) ⌝ }
 {
@@ -42,14 +53,11 @@ fn walked(words: &[u32], count: usize, question: Question, shorter: usize, start
 fn asked(words: &[u32], format: PcmFormat, size: usize, shorter: usize) -> Verdict
     ensures { λ r. ⌜ r ≡ blockVerdict (chainOfWords (now (words .entry))) format size shorter ⌝ }
 {
-    if !chain_words::stand(words) {
+    if !legal_head(words) {
         return Verdict::Refused(Error::InvalidFormat);
     }
     let own = chain_words::format_of(words);
     let count = chain_words::count_of(words);
-    if !questions::head_legal(own, count) {
-        return Verdict::Refused(Error::InvalidFormat);
-    }
     let start = questions::begun(own, count, size, shorter);
     let walk = walked(words, count, Question::Block, shorter, start);
     questions::verdict(own, format, size, walk)
@@ -115,14 +123,11 @@ pub fn process(
 pub fn scratch_bytes(words: &[u32], size: usize) -> Scratch
     ensures { λ r. ⌜ r ≡ scratchBytes (chainOfWords (now (words .entry))) size ⌝ }
 {
-    if !chain_words::stand(words) {
+    if !legal_head(words) {
         return Scratch::Refused(Error::InvalidFormat);
     }
     let own = chain_words::format_of(words);
     let count = chain_words::count_of(words);
-    if !questions::head_legal(own, count) {
-        return Scratch::Refused(Error::InvalidFormat);
-    }
     let start = questions::begun(own, 0, size, size);
     let walk = walked(words, count, Question::AnyState, size, start);
     let verdict = questions::sized(own, size, walk);

@@ -2,7 +2,7 @@
 use borrow.Author.Needs.{needs}
 use mathlib.Core.Path.{ap}
 use Rattle.muzgleur.specs.Results.{blockOutcome}
-use Rattle.muzgleur.proofs.Stands.{block-words}
+use Rattle.muzgleur.proofs.Words.{block-words}
 use Rattle.muzgleur.proofs.muzgleur_block.Statement.{statement}
 use Rattle.muzgleur.proofs.muzgleur_block.Tie as tie
 

@@ -1,5 +1,5 @@
 -- Laws of the definitions in Counters. Assumes nothing.
-use mathlib.Core.Path.{_≡_, refl, ap, _∙_}
+use mathlib.Core.Path.{_≡_, refl, sym, ap, _∙_}
 use mathlib.Core.Bool.{Bool, true, false, cond}
 use mathlib.Core.List.{List, [], _∷_}
 use Prim.Native.Nat.{ℕ, _+_, _≤_, _<_}
@@ -23,11 +23,13 @@ use Rattle.answers.specs.declared.Answer.{Answer}
 use Rattle.answers.specs.declared.Answer.the-variants as answer
 use Rattle.block.specs.BlockCall.{blockVerdict, shorter, outputBytes, accepted, concluded, blockCall}
 use Rattle.answers.specs.Answers.{countedUp}
-use Rattle.stream.specs.Calls.{Call, block, reset, Lent, Run, afterCall, afterCalls}
+use Rattle.finish.specs.FinishCall.{finishVerdict, finished, finishConcluded, finishCall}
+use Rattle.stream.specs.Calls.{Call, block, reset, finish, Lent, Run, afterCall}
 use Rattle.stream.specs.Opened.{kindsIn, FreshlyOpened}
 use Rattle.stream.specs.PlainRoom.{plainVerdict}
-use Rattle.stream.specs.Stream.{afterFeeding}
-use Rattle.stream.specs.laws.AfterCalls.{Between, verdict-plain, after-call}
+use Rattle.stream.specs.Stream.{Stream, fed, within, afterFeeding, afterCalls}
+use Rattle.stream.specs.FromChain.{Since}
+use Rattle.stream.specs.laws.AfterCalls.{Stands, verdict-plain, stands-within, after-call}
 use Rattle.stream.specs.Counters.{heldCount, oneIfAccepted, acceptedBy, acceptedFrom, oneIfNothing, nothingBy, nothingFrom}
 
 -- ---- one call
@@ -57,6 +59,14 @@ reset-counters c = go (leb (c .count) 8) _ refl refl
     go true d e k = (e, k)
     go false d e k = (refl, refl)
 
+finish-counters : (c : Pipeline) (a b : List ℕ) → (finishCall c a b .chain .blocks ≡ c .blocks) × (finishCall c a b .chain .«empty_blocks» ≡ c .«empty_blocks»)
+unfolding finishCall finished
+finish-counters c a b = go (finishVerdict c (shorter a b))
+  where
+    go : (w : Verdict) → (finishConcluded w c (record { a = a; b = b }) .chain .blocks ≡ c .blocks) × (finishConcluded w c (record { a = a; b = b }) .chain .«empty_blocks» ≡ c .«empty_blocks»)
+    go Accepted = reset-counters c
+    go (Refused e) = (refl, refl)
+
 nothing-call : (r : Run) (call : Call) (n : ℕ) → r .chain .«empty_blocks» ≡ heldCount n → afterCall r call .chain .«empty_blocks» ≡ heldCount (n + nothingBy r call)
 unfolding blockCall accepted
 nothing-call r (block format t bytes a b) n e = go (blockVerdict (r .chain) format (length bytes) (shorter a b))
@@ -71,15 +81,24 @@ nothing-call r (block format t bytes a b) n e = go (blockVerdict (r .chain) form
     go (Refused x) = rw add-zero e
     go Accepted = by-length (eqb (outputBytes (r .chain) bytes) 0) _ refl
 nothing-call r reset n e = rw add-zero (reset-counters (r .chain) .1 ∙ e)
+nothing-call r (finish a b) n e = finish-counters (r .chain) a b .1 ∙ e ∙ ap heldCount (sym (add-zero n))
 
-pub nothing-calls : (r : Run) (calls : List Call) (n : ℕ) → r .chain .«empty_blocks» ≡ heldCount n → afterCalls r calls .chain .«empty_blocks» ≡ heldCount (n + nothingFrom r calls)
-nothing-calls r [] n e = rw add-zero e
-nothing-calls r (call ∷ calls) n e =
-    let m : n + nothingBy r call + nothingFrom (afterCall r call) calls ≡ n + nothingFrom r (call ∷ calls) = omega arith in
-    nothing-calls (afterCall r call) calls (n + nothingBy r call) (nothing-call r call n e) ∙ ap heldCount m
+-- what a call leaves of the chain depends on the chain alone
+chain-after : (r q : Run) (call : Call) → r .chain ≡ q .chain → afterCall r call .chain ≡ afterCall q call .chain
+chain-after r q (block format t bytes a b) e = ap (λ (c : Pipeline). blockCall c format t bytes a b .chain) e
+chain-after r q reset e = ap resetCall e
+chain-after r q (finish a b) e = ap (λ (c : Pipeline). finishCall c a b .chain) e
+
+pub nothing-calls : (o : Pipeline) (S : Stream) (r q : Run) (calls : List Call) (n : ℕ) → r .chain ≡ q .chain → q .chain .«empty_blocks» ≡ heldCount n
+    → afterCalls o S r calls .chain .«empty_blocks» ≡ heldCount (n + nothingFrom q calls)
+nothing-calls o S r q [] n s e = rw (s, add-zero) e
+nothing-calls o S r q (call ∷ calls) n s e =
+    let m : n + nothingBy q call + nothingFrom (afterCall q call) calls ≡ n + nothingFrom q (call ∷ calls) = omega arith in
+    nothing-calls o (afterFeeding o (fed S) call) (afterCall (within S r) call) (afterCall q call) calls (n + nothingBy q call) (chain-after (within S r) q call s) (nothing-call q call n e)
+    ∙ ap heldCount m
 
 module _ (o : Pipeline) (opened : FreshlyOpened o) where
-  counted-call : (X : List Frame) (r : Run) (call : Call) (n : ℕ) → Between o opened X r → r .chain .blocks ≡ heldCount n → afterCall r call .chain .blocks ≡ heldCount (n + acceptedBy o X call)
+  counted-call : (X : List Frame) (r : Run) (call : Call) (n : ℕ) → Since o X r → r .chain .blocks ≡ heldCount n → afterCall r call .chain .blocks ≡ heldCount (n + acceptedBy o X call)
   unfolding blockCall accepted
   counted-call X r (block format t bytes a b) n v e = go (blockVerdict (r .chain) format (length bytes) (shorter a b)) refl
     where
@@ -89,13 +108,16 @@ module _ (o : Pipeline) (opened : FreshlyOpened o) where
       go (Refused x) h = rw (← verdict-plain o opened v format bytes a b, h, add-zero) e
       go Accepted h = rw (← verdict-plain o opened v format bytes a b, h) (ap countedUp e ∙ one-more n)
   counted-call X r reset n v e = rw add-zero (reset-counters (r .chain) .0 ∙ e)
+  counted-call X r (finish a b) n v e = rw add-zero (finish-counters (r .chain) a b .0 ∙ e)
 
-  pub counted-calls : (X : List Frame) (r : Run) (calls : List Call) (n : ℕ) → Between o opened X r → All Lent calls → r .chain .blocks ≡ heldCount n
-      → afterCalls r calls .chain .blocks ≡ heldCount (n + acceptedFrom o X calls)
-  counted-calls X r [] n v lent e = rw add-zero e
-  counted-calls X r (call ∷ calls) n v lent e =
-      let m : n + acceptedBy o X call + acceptedFrom o (afterFeeding o X call) calls ≡ n + acceptedFrom o X (call ∷ calls) = omega arith in
-      counted-calls (afterFeeding o X call) (afterCall r call) calls (n + acceptedBy o X call) (after-call o opened X r call v (lent .0)) (lent .1) (counted-call X r call n v e)
+  pub counted-calls : (S : Stream) (r : Run) (calls : List Call) (n : ℕ) → Stands o opened S r → All Lent calls → r .chain .blocks ≡ heldCount n
+      → afterCalls o S r calls .chain .blocks ≡ heldCount (n + acceptedFrom o S calls)
+  counted-calls S r [] n v lent e = rw add-zero e
+  counted-calls S r (call ∷ calls) n v lent e =
+      let m : n + acceptedBy o (fed S) call + acceptedFrom o (afterFeeding o (fed S) call) calls ≡ n + acceptedFrom o S (call ∷ calls) = omega arith in
+      let w : Since o (fed S) (within S r) = stands-within o opened S r v in
+      counted-calls (afterFeeding o (fed S) call) (afterCall (within S r) call) calls (n + acceptedBy o (fed S) call) (after-call o opened (fed S) (within S r) call w (lent .0)) (lent .1)
+      (counted-call (fed S) (within S r) call n w e)
       ∙ ap heldCount m
 
 -- ---- any calls on a chain that opening returned

@@ -1,7 +1,12 @@
 -- Laws of the definitions in PlainChain. Assumes nothing.
-use mathlib.Core.Path.{_≡_, refl, ap, ap₂, _∙_}
+use mathlib.Core.Path.{_≡_, refl, ap, ap₂, _∙_, subst}
+use mathlib.Core.Bool.{true}
 use mathlib.Core.List.{List, [], _∷_, map}
-use Rattle.pcm.specs.Frames.{Frame}
+use Prim.Native.Nat.{ℕ, zero, suc}
+use lib.ListN.{take, drop}
+use mir.Facts.{sfits-lit}
+use Rattle.pcm.specs.declared.PcmFormat.{PcmFormat}
+use Rattle.pcm.specs.Frames.{Frame, FramesOf}
 use Rattle.filters.specs.Filters.{memoryAtRest}
 use Rattle.rates.specs.declared.ResamplerState.{ResamplerState}
 use Rattle.resample.specs.laws.Blocks.{resampled-is-whole, state-is-whole}
@@ -9,9 +14,11 @@ use Rattle.stage.specs.declared.StageKind.{StageKind}
 use Rattle.stage.specs.declared.StageKind.the-variants as kind
 use Rattle.stage.specs.declared.SoundMemory.{SoundMemory}
 use Rattle.stage.specs.declared.Stage.{Stage}
-use Rattle.stage.specs.Stages.{stageOut, stageNext, stageAsOpened, stageClear, memoryAsOpened, outOf, keepsOf}
+use Rattle.stage.specs.Stages.{stageOut, stageNext, stageAsOpened, memoryAsOpened, formatAfter, outOf, keepsOf}
+use Rattle.stage.specs.Rooms.{stageSuits}
+use Rattle.stage.specs.laws.Rooms.{stage-frames}
 use Rattle.block.specs.Chain.{chainOut, chainNext}
-use Rattle.stream.specs.PlainChain.{plainStage, plainMemory, plainOut, plainState}
+use Rattle.stream.specs.PlainChain.{plainStage, plainMemory, through, plainOut, plainState}
 
 -- ---- the stages as opened make and keep just that
 out-is-plain : (k : StageKind) (X : List Frame) → outOf k memoryAsOpened X ≡ plainStage k X
@@ -40,8 +47,12 @@ pub memory-is-plain : (k : StageKind) (X : List Frame) → stageNext (stageAsOpe
 unfolding stageNext
 memory-is-plain k X = ap (λ (m : SoundMemory). record { kind = k; memory = m }) (keeps-is-plain k X)
 
+-- frames of frames
+pub plain-frames : (f : PcmFormat) (k : StageKind) (X : List Frame) → stageSuits f k memoryAsOpened ≡ true → FramesOf (f .channels) X → FramesOf (formatAfter f k .channels) (plainStage k X)
+plain-frames f k X h a = subst (FramesOf (formatAfter f k .channels)) (stage-is-plain k X) (stage-frames f (stageAsOpened k) X h (sfits-lit tt, (sfits-lit tt, tt)) a)
+
 pub chain-is-plain : (ks : List StageKind) (X : List Frame) → chainOut (map stageAsOpened ks) X ≡ plainOut ks X
-unfolding plainOut
+unfolding through
 chain-is-plain [] X = refl
 chain-is-plain (k ∷ ks) X = ap (chainOut (map stageAsOpened ks)) (stage-is-plain k X) ∙ chain-is-plain ks (plainStage k X)
 
@@ -51,7 +62,11 @@ state-is-plain [] X = refl
 state-is-plain (k ∷ ks) X =
     ap₂ (λ (s : Stage) (l : List Stage). s ∷ l) (memory-is-plain k X) (ap (chainNext (map stageAsOpened ks)) (stage-is-plain k X) ∙ state-is-plain ks (plainStage k X))
 
--- the stages of a list, as opened
-pub clear-is-opened : (l : List Stage) → map stageClear l ≡ map stageAsOpened (map (λ (s : Stage). s .kind) l)
-clear-is-opened [] = refl
-clear-is-opened (s ∷ l) = ap (λ (r : List Stage). stageClear s ∷ r) (clear-is-opened l)
+-- the stage with i stages before it makes its part of what has come through those
+pub through-stage : (makes : StageKind → List Frame → List Frame) (i : ℕ) (ks : List StageKind) (k : StageKind) (rest : List StageKind) (X : List Frame)
+    → drop i ks ≡ k ∷ rest → through makes (take (suc i) ks) X ≡ makes k (through makes (take i ks) X)
+unfolding through
+through-stage makes zero [] k rest X e = cc
+through-stage makes zero (j ∷ ks) k rest X e = ap (λ (h : StageKind). makes h X) (cc)
+through-stage makes (suc i) [] k rest X e = cc
+through-stage makes (suc i) (j ∷ ks) k rest X e = through-stage makes i ks k rest (makes j X) e

@@ -45,7 +45,7 @@ phase-below r X h = subst (λ s. s .phase < r .«in_r») (state-is-whole r X) (g
     go false [] = h
     go false (x ∷ xs) = past-below (r .«in_r») h (r .«in_r») 0 (gaps (among openedState (x ∷ xs)) * r .«out_r») (le-refl (r .«in_r»)) h
 
-suits-still : (f : PcmFormat) (k : StageKind) (X : List Frame) → stageSuits f k memoryAsOpened ≡ true → stageSuits f k (plainMemory k X) ≡ true
+pub suits-still : (f : PcmFormat) (k : StageKind) (X : List Frame) → stageSuits f k memoryAsOpened ≡ true → stageSuits f k (plainMemory k X) ≡ true
 unfolding stageSuits plainMemory
 suits-still f (kind.Gain g) X h = h
 suits-still f kind.MonoToStereo X h = h

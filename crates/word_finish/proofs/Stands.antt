@@ -1,4 +1,4 @@
--- Laws: after a reset the words stand for the chain cleared, and what a block leaves of the words. Assumes nothing.
+-- Laws: after a reset the words stand for the chain cleared. Assumes nothing.
 use mathlib.Core.Path.{_≡_, refl, sym, ap, _∙_, subst}
 use mathlib.Core.Bool.{Bool, true, false, cond}
 use mathlib.Core.List.{List, [], _∷_, _++_, map}
@@ -16,8 +16,6 @@ use Rattle.stage.specs.Stages.{stageClear, kindsOf}
 use Rattle.pcm.specs.laws.Tests.{both}
 use Rattle.pipeline.specs.declared.Pipeline.{Pipeline}
 use Rattle.pipeline.specs.Reset.{resetCall}
-use Rattle.answers.specs.declared.Answer.{Answer}
-use Rattle.answers.specs.declared.Answer.the-variants as answer
 use Rattle.pipeline.specs.WritingBack.{stagesOf}
 use Rattle.stage_words.specs.Layout.{word}
 use Rattle.stage_words.specs.Storable.{HeldMemory, Small}
@@ -25,9 +23,7 @@ use Rattle.stage_words.specs.laws.Small.{small-clear}
 use Rattle.chain_words.specs.Layout.{chainAt, stands, noChain, chainOfWords}
 use Rattle.chain_words.specs.laws.Chains.{stands-long}
 use Rattle.chain_words.specs.laws.Keeping.{KeptStage, walk-stands}
-use Rattle.word_block.specs.Words.{SettingsStay, WordsAfter}
-use Rattle.answers.specs.Answers.{answerTold}
-use Rattle.muzgleur.specs.Results.{soundWords}
+use Rattle.word_finish.specs.Words.{soundWords}
 
 kinds-clear : (l : List Stage) → kindsOf (map stageClear l) ≡ kindsOf l
 kinds-clear [] = refl
@@ -77,15 +73,6 @@ module _ (w : List ℕ) where
   pub count-of-words : stands w ≡ true → chainOfWords w .count ≤ 8
   unfolding chainOfWords chainAt stands
   count-of-words h = rw h (leb-true (word w 0) 8 (both (leb (word w 0) 8) _ (both (leb 152 (length w)) _ h .1) .0))
-
--- ---- what a block leaves of the words
-stay-all : (w : List ℕ) → SettingsStay w w
-stay-all w = record { long = refl; head = λ j h. refl; seventh = refl; settings = λ i j h. refl; spare = λ j h. refl }
-
-pub block-words : (x : Answer) (w w′ : List ℕ) → WordsAfter x w w′ → (answerTold x .outcome ≡ 0 → w′ ≡ w) × SettingsStay w w′
-block-words (answer.Output f timestamp side len) w w′ h = (λ e. absurd (let z : ⊥ = omega arith in z), h)
-block-words answer.NothingYet w w′ h = (λ e. absurd (let z : ⊥ = omega arith in z), h)
-block-words (answer.Refused e) w w′ h = (λ z. h, subst (SettingsStay w) (sym h) (stay-all w))
 
 -- ---- words that stand for no chain: a reset leaves all
 pub no-chain-reset : resetCall noChain ≡ noChain
