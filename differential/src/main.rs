@@ -6,6 +6,7 @@
 //!     differential --sample DIR         writes a sample of script and answers as DIR/stdin and DIR/stdout
 
 mod differences;
+mod ending;
 mod families;
 mod model;
 mod protocol;
@@ -42,7 +43,7 @@ fn compare(replay: PathBuf, rounds: u64, timed: bool) {
     }
     if timed {
         for ((command, number, outcome), answers) in &session.reached {
-            let name = protocol::COMMANDS[usize::from(*command) - 1].name;
+            let name = protocol::command_of(*command).map_or("unknown", |command| command.name);
             println!("{name}, number {number}, outcome {outcome}: {}", grouped(*answers));
         }
     }

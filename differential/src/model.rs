@@ -1,7 +1,8 @@
-//! What every call must answer: document 01's questions in their order, and the Rust's values wherever it has the call.
+//! What every call must answer: the questions of documents 01 and 02 in their order, and the Rust's values wherever it has the call.
 
+use crate::ending::{self, Resampler};
 use crate::recipe::{self, Designs};
-use crate::source::{self, ADDRESSES, Address, Block, Buffer, Format, Ran, Stage, refusal};
+use crate::source::{self, ADDRESSES, Address, Block, Buffer, Format, Ran, Sound, Stage, refusal};
 use oracle::elements::{Biquad, BiquadKind, Coefficients, DcBlock, Gain, LinearResampler, MonoToStereo, StereoToMono, mix_i16};
 use std::f64::consts::TAU;
 
@@ -75,7 +76,7 @@ fn stage(kind: u16, fields: &[u8], designs: &Designs) -> Result<(Stage, bool), u
         recipe::GAIN => Stage::Gain(Gain::from_q15(field(0) as i32)),
         recipe::MONO_TO_STEREO => Stage::MonoToStereo(MonoToStereo),
         recipe::STEREO_TO_MONO => Stage::StereoToMono(StereoToMono),
-        recipe::RESAMPLE => Stage::Resample(LinearResampler::new(field(0), field(1)).unwrap()),
+        recipe::RESAMPLE => Stage::Resample(Resampler::new([field(0), field(1)]).unwrap()),
         recipe::DC_BLOCK => Stage::DcBlock(DcBlock::with_corner(f32::from_bits(field(0)))),
         _ => {
             // Where no kind gives the coefficients, one stands in that gives the same formats and rooms.
@@ -113,17 +114,17 @@ pub fn open(format: Format, bytes: &[u8], designs: &Designs) -> Result<Chain, u1
     Ok(Chain { format, recipe: bytes.to_vec(), comparable, stages: [stages.clone(), stages], counters: [0; 2] })
 }
 
-/// What a block call answers.
+/// What a block or a finish answers.
 #[derive(Default)]
-pub struct BlockAnswer {
+pub struct Answer {
     pub number: u16,
     pub needed: u64,
-    pub sound: Option<source::Sound>,
+    pub sound: Option<Sound>,
     pub halves: [Vec<u8>; 2],
     pub counters: [u64; 2],
 }
 
-impl BlockAnswer {
+impl Answer {
     /// 0 refused, 1 sound, 2 nothing yet.
     pub fn outcome(&self) -> u8 {
         match (&self.sound, self.number) {
@@ -144,7 +145,7 @@ impl Chain {
         (length / frame > MOST_FRAMES as u64).then_some(TOO_MANY_FRAMES)
     }
 
-    pub fn block(&mut self, block: Block) -> BlockAnswer {
+    pub fn block(&mut self, block: Block) -> Answer {
         let refused = self.length_refused(block.sound.len() as u64).or((block.format != self.format).then_some(UNSUPPORTED));
         let (number, needed, ran) = match refused {
             Some(number) => (number, 0, None),
@@ -152,10 +153,10 @@ impl Chain {
         };
         let Some(ran) = ran else {
             let halves = block.halves.map(<[u8]>::to_vec);
-            return BlockAnswer { number, needed, sound: None, halves, counters: self.counters };
+            return Answer { number, needed, sound: None, halves, counters: self.counters };
         };
         self.counters = ran.counters;
-        BlockAnswer { number, needed, sound: ran.answer.unwrap(), halves: ran.halves, counters: self.counters }
+        Answer { number, needed, sound: ran.answer.unwrap(), halves: ran.halves, counters: self.counters }
     }
 
     /// The Rust's answer over buffers at even and odd addresses, which must agree; its stages are kept where it took the block.
@@ -171,6 +172,39 @@ impl Chain {
                 (0, 0, Some(even))
             }
         }
+    }
+
+    /// What each stage delivers at a finish, over buffers at even and odd addresses, which must agree.
+    fn delivered_at_end(&self) -> Vec<Vec<u8>> {
+        assert!(self.comparable, "a finish for coefficients that no kind gives");
+        let [even, odd] = ADDRESSES.map(|address| ending::delivered(&self.stages[address as usize], self.format, address));
+        assert!(even == odd, "the source's arms disagree at the end: {:?} {:X?}", self.format, self.recipe);
+        even
+    }
+
+    /// The bytes of each of the smallest equal halves that a finish accepts.
+    pub fn room_at_end(&self) -> usize {
+        self.delivered_at_end().iter().map(Vec::len).max().unwrap_or(0)
+    }
+
+    /// Room for what each stage delivers, in chain order; then the front of each stage's half is written and the stream is over.
+    pub fn finish(&mut self, halves: [&[u8]; 2]) -> Answer {
+        let shorter = halves[0].len().min(halves[1].len());
+        let delivered = self.delivered_at_end();
+        let short = delivered.iter().map(Vec::len).find(|length| *length > shorter);
+        let mut answer = Answer { halves: halves.map(<[u8]>::to_vec), counters: self.counters, ..Answer::default() };
+        if let Some(length) = short {
+            (answer.number, answer.needed) = (BUFFER_TOO_SMALL, 2 * length as u64);
+            return answer;
+        }
+        let mut output = Sound { format: self.output_format(), ..Sound::default() };
+        for (bytes, half) in delivered.into_iter().zip([0, 1].into_iter().cycle()) {
+            answer.halves[half][..bytes.len()].copy_from_slice(&bytes);
+            (output.half, output.bytes) = (half as u8, bytes);
+        }
+        answer.sound = (!output.bytes.is_empty()).then_some(output);
+        self.reset();
+        answer
     }
 
     pub fn reset(&mut self) {

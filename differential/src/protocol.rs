@@ -1,7 +1,8 @@
 //! The commands of `replay` and their answers, field by field.
 
-/// A command's name, its fields and its answer's: each a type and a name.
+/// A command's byte and name, its fields and its answer's: each a type and a name.
 pub struct Command {
+    pub code: u8,
     pub name: &'static str,
     pub fields: &'static str,
     pub answer: &'static str,
@@ -21,41 +22,55 @@ pub const FROM_Q15: u8 = 0x0B;
 pub const LINEAR: u8 = 0x0C;
 pub const ROUND_SAT16: u8 = 0x0D;
 pub const SAT16: u8 = 0x0E;
+pub const FINISH: u8 = 0x10;
 
 /// The byte that `replay` ends with where the script breaks off or is not one.
 pub const END_MARK: u8 = 0xFF;
 /// The longest "bytes" that a script may hold.
 pub const LONGEST: usize = 262_144;
 
-const fn command(name: &'static str, fields: &'static str, answer: &'static str) -> Command {
-    Command { name, fields, answer }
+const fn command(code: u8, name: &'static str, fields: &'static str, answer: &'static str) -> Command {
+    Command { code, name, fields, answer }
 }
 
-/// In the order of their bytes, from 0x01.
-pub const COMMANDS: [Command; 14] = [
-    command("open", "u32 rate, u16 channels, bytes recipe", "u16 number"),
+/// The command of a byte, if there is one.
+pub fn command_of(code: u8) -> Option<&'static Command> {
+    COMMANDS.iter().find(|command| command.code == code)
+}
+
+pub const COMMANDS: [Command; 15] = [
+    command(OPEN, "open", "u32 rate, u16 channels, bytes recipe", "u16 number"),
     command(
+        BLOCK,
         "block",
         "u32 rate, u16 channels, u64 timestamp, bytes sound, bytes half a, bytes half b",
         "u16 number, u64 needed, u8 outcome, u32 rate, u16 channels, u64 timestamp, u8 half, u32 length, \
          bytes output, bytes half a, bytes half b, u64 blocks, u64 empty_blocks",
     ),
-    command("reset", "", "u64 blocks, u64 empty_blocks"),
-    command("write recipe", "bytes room", "u16 number, u64 needed, u32 length, bytes room"),
-    command("scratch_bytes", "u64 length", "u16 number, u64 value"),
-    command("output format", "", "u32 rate, u16 channels"),
-    command("mix_i16", "bytes a, bytes b, bytes out", "u16 number, u64 needed, bytes out"),
-    command("max_output_frames", "u32 input rate, u32 output rate, u64 frames", "u16 number, u64 value"),
-    command("pole", "f32 corner, u32 rate", "u16 number, f32 pole"),
+    command(RESET, "reset", "", "u64 blocks, u64 empty_blocks"),
+    command(WRITE_RECIPE, "write recipe", "bytes room", "u16 number, u64 needed, u32 length, bytes room"),
+    command(SCRATCH_BYTES, "scratch_bytes", "u64 length", "u16 number, u64 value"),
+    command(OUTPUT_FORMAT, "output format", "", "u32 rate, u16 channels"),
+    command(MIX, "mix_i16", "bytes a, bytes b, bytes out", "u16 number, u64 needed, bytes out"),
+    command(MAX_OUTPUT_FRAMES, "max_output_frames", "u32 input rate, u32 output rate, u64 frames", "u16 number, u64 value"),
+    command(POLE, "pole", "f32 corner, u32 rate", "u16 number, f32 pole"),
     command(
+        DESIGN,
         "design",
         "u8 kind, f32 f0, f32 q, f32 gain_db, u32 rate, f64 sine, f64 cosine, f64 a",
         "u16 number, f32 b0, f32 b1, f32 b2, f32 a1, f32 a2",
     ),
-    command("from_q15", "i32 q15", "i32 q15"),
-    command("linear", "f32 factor", "i32 q15"),
-    command("round_sat16", "f32 float", "i16 sample"),
-    command("sat16", "i32 number", "i16 sample"),
+    command(FROM_Q15, "from_q15", "i32 q15", "i32 q15"),
+    command(LINEAR, "linear", "f32 factor", "i32 q15"),
+    command(ROUND_SAT16, "round_sat16", "f32 float", "i16 sample"),
+    command(SAT16, "sat16", "i32 number", "i16 sample"),
+    command(
+        FINISH,
+        "finish",
+        "bytes half a, bytes half b",
+        "u16 number, u64 needed, u8 outcome, u32 rate, u16 channels, u8 half, u32 length, \
+         bytes output, bytes half a, bytes half b, u64 blocks, u64 empty_blocks",
+    ),
 ];
 
 /// Fields, low byte first, appended to a script or an answer.

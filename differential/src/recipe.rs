@@ -113,8 +113,7 @@ fn next_record(random: &mut Random, format: &mut Format, designs: &mut Designs) 
         }
         2 => {
             let out = rate_from(random, format.rate);
-            let rates = [std::mem::replace(&mut format.rate, out), out];
-            resample(rates)
+            resample([std::mem::replace(&mut format.rate, out), out])
         }
         3 => dc_block(any_corner(random, format.rate)),
         _ => {
@@ -124,12 +123,33 @@ fn next_record(random: &mut Random, format: &mut Format, designs: &mut Designs) 
     }
 }
 
-/// A recipe of so many stages that opens.
-pub fn any(random: &mut Random, stages: usize, designs: &mut Designs) -> Recipe {
+/// A record as above; every second one resamples to a small multiple or part of the rate, so that outputs often fall on frames.
+fn next_resampler(random: &mut Random, format: &mut Format, designs: &mut Designs) -> Vec<u8> {
+    if random.one_in(2) {
+        return next_record(random, format, designs);
+    }
+    let [up, down] = [0, 0].map(|_| 1 + random.below(4) as u32);
+    let out = (format.rate * up / down).clamp(1, 384_000);
+    resample([std::mem::replace(&mut format.rate, out), out])
+}
+
+type NextRecord = fn(&mut Random, &mut Format, &mut Designs) -> Vec<u8>;
+
+fn row(random: &mut Random, stages: usize, designs: &mut Designs, next: NextRecord) -> Recipe {
     let format = Format { rate: random.choice(&RATES), channels: 1 + random.below(2) as u16 };
     let mut reaching = format;
-    let records: Vec<Vec<u8>> = (0..stages).map(|_| next_record(random, &mut reaching, designs)).collect();
+    let records: Vec<Vec<u8>> = (0..stages).map(|_| next(random, &mut reaching, designs)).collect();
     Recipe { format, bytes: records.concat() }
+}
+
+/// A recipe of so many stages that opens.
+pub fn any(random: &mut Random, stages: usize, designs: &mut Designs) -> Recipe {
+    row(random, stages, designs, next_record)
+}
+
+/// The same, some half of them resamplers.
+pub fn resamplers(random: &mut Random, stages: usize, designs: &mut Designs) -> Recipe {
+    row(random, stages, designs, next_resampler)
 }
 
 /// Each stage kind alone, at its settings' limits and in the middle.

@@ -1,18 +1,14 @@
 //! The first difference, decoded.
 
-use crate::protocol::{COMMANDS, Command, END_MARK, OPEN, decode};
+use crate::protocol::{END_MARK, OPEN, command_of, decode};
 use crate::session::Session;
 
 /// Of the calls since the chain was opened, at most the last so many are printed.
 const EARLIER: usize = 40;
 
-fn command(code: u8) -> Option<&'static Command> {
-    COMMANDS.get(usize::from(code).wrapping_sub(1))
-}
-
 /// A call in one line: name and fields, bytes shortened.
 fn in_short(call: &[u8]) -> String {
-    let Some(command) = command(call[0]) else { return format!("command 0x{:02X}", call[0]) };
+    let Some(command) = command_of(call[0]) else { return format!("command 0x{:02X}", call[0]) };
     let fields: Vec<String> = decode(command.fields, &call[1..]).iter().map(|(name, text, _)| format!("{name} {text}")).collect();
     format!("{}: {}", command.name, fields.join(", "))
 }
@@ -48,7 +44,7 @@ pub fn difference(session: &Session, found: &[u8]) -> ! {
     let found_here = &found[session.calls[call][1].min(found.len())..];
     println!("differs: {}, call {} of {} in its script", session.family, call + 1, session.calls.len());
     println!("{}", in_short(script));
-    match command(script[0]) {
+    match command_of(script[0]) {
         Some(command) if expected != [END_MARK] => field_by_field(command.answer, expected, found_here),
         _ => println!("    expected {expected:02X?}, found {:02X?}", &found_here[..found_here.len().min(64)]),
     }

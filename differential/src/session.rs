@@ -1,10 +1,10 @@
 //! A script under way: calls are appended with what they must answer, then `replay` runs it and everything is compared.
 
-use crate::model::{self, BlockAnswer, Chain, Given};
+use crate::model::{self, Answer, Chain, Given};
 use crate::protocol::*;
 use crate::recipe::{Designs, Recipe};
 use crate::report;
-use crate::source::{Block, Format};
+use crate::source::{Block, Format, Sound};
 use oracle::elements::{BiquadKind, Gain};
 use std::collections::BTreeMap;
 use std::io::{Read, Write};
@@ -115,7 +115,7 @@ impl Session {
     /// The number opens most answers.
     fn number(&mut self, number: u16) {
         let command = self.script[self.calls.last().unwrap()[0]];
-        if command != BLOCK {
+        if ![BLOCK, FINISH].contains(&command) {
             self.reach(command, number, 0);
         }
         self.answers.put(number.to_le_bytes());
@@ -148,35 +148,44 @@ impl Session {
         self.open(recipe.format, &recipe.bytes)
     }
 
-    pub fn block(&mut self, block: Block) -> BlockAnswer {
+    pub fn block(&mut self, block: Block) -> Answer {
         self.begin(BLOCK);
         self.script.put(block.format.rate.to_le_bytes());
         self.script.put(block.format.channels.to_le_bytes());
         self.script.put(block.timestamp.to_le_bytes());
         [block.sound, block.halves[0], block.halves[1]].iter().for_each(|bytes| self.script.put_bytes(bytes));
         let answer = self.chain.block(block);
+        self.sounded(BLOCK, &answer);
+        answer
+    }
+
+    pub fn finish(&mut self, halves: [&[u8]; 2]) -> Answer {
+        self.begin(FINISH);
+        halves.iter().for_each(|half| self.script.put_bytes(half));
+        let answer = self.chain.finish(halves);
+        self.sounded(FINISH, &answer);
+        answer
+    }
+
+    /// The answer of a block, or of a finish, which has no timestamp.
+    fn sounded(&mut self, command: u8, answer: &Answer) {
         self.number(answer.number);
-        self.reach(BLOCK, answer.number, answer.outcome());
+        self.reach(command, answer.number, answer.outcome());
+        let silence = Sound::default();
+        let sound = answer.sound.as_ref().unwrap_or(&silence);
         let out = &mut self.answers;
         out.put(answer.needed.to_le_bytes());
         out.put([answer.outcome()]);
-        match &answer.sound {
-            None => {
-                out.put([0; 4 + 2 + 8 + 1 + 4]);
-                out.put_bytes(&[]);
-            }
-            Some(sound) => {
-                out.put(sound.format.rate.to_le_bytes());
-                out.put(sound.format.channels.to_le_bytes());
-                out.put(sound.timestamp.to_le_bytes());
-                out.put([sound.half]);
-                out.put((sound.bytes.len() as u32).to_le_bytes());
-                out.put_bytes(&sound.bytes);
-            }
+        out.put(sound.format.rate.to_le_bytes());
+        out.put(sound.format.channels.to_le_bytes());
+        if command == BLOCK {
+            out.put(sound.timestamp.to_le_bytes());
         }
+        out.put([sound.half]);
+        out.put((sound.bytes.len() as u32).to_le_bytes());
+        out.put_bytes(&sound.bytes);
         answer.halves.iter().for_each(|half| out.put_bytes(half));
         answer.counters.iter().for_each(|counter| out.put(counter.to_le_bytes()));
-        answer
     }
 
     pub fn reset(&mut self) {

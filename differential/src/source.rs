@@ -1,6 +1,7 @@
 //! The unchanged Rust, run on one call: stages that can be cloned, and buffers at even and at odd addresses.
 
-use oracle::elements::{Biquad, DcBlock, Gain, LinearResampler, MonoToStereo, StereoToMono};
+use crate::ending::Resampler;
+use oracle::elements::{Biquad, DcBlock, Gain, MonoToStereo, StereoToMono};
 use oracle::esp_core::error::{Error, Result};
 use oracle::esp_core::pcm::{PcmBlock, PcmFormat, SampleFormat};
 use oracle::pipeline::{Element, Pipeline};
@@ -10,7 +11,7 @@ pub enum Stage {
     Gain(Gain),
     MonoToStereo(MonoToStereo),
     StereoToMono(StereoToMono),
-    Resample(LinearResampler),
+    Resample(Resampler),
     DcBlock(DcBlock),
     Biquad(Biquad),
 }
@@ -29,7 +30,7 @@ impl Stage {
 }
 
 /// A rate and a channel count of 16-bit samples.
-#[derive(Debug, Clone, Copy, PartialEq, Eq)]
+#[derive(Debug, Default, Clone, Copy, PartialEq, Eq)]
 pub struct Format {
     pub rate: u32,
     pub channels: u16,
@@ -117,10 +118,11 @@ macro_rules! with_pipeline {
     };
 }
 
-/// A block that the Rust gave back.
-#[derive(Debug, Clone, PartialEq)]
+/// Sound that a call gave back.
+#[derive(Debug, Default, Clone, PartialEq)]
 pub struct Sound {
     pub format: Format,
+    /// Of a block; a finish has none.
     pub timestamp: u64,
     pub half: u8,
     pub bytes: Vec<u8>,

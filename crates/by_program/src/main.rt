@@ -1,5 +1,7 @@
-// Document 01, 'By program': what the calls answer. One line for each: what was asked, then 0 or the refusal's number, then bytes.
+// Document 01, 'By program', and document 02's finish: what the calls answer. One line for each: what was asked, then 0 or the refusal's
+// number, then bytes; and the last sample of what a finish delivers.
 use answers::Answer;
+use answers::FinishAnswer;
 use pcm::PcmFormat;
 use pipeline::Pipeline;
 
@@ -43,6 +45,36 @@ fn told(
     done.chain
 }
 
+// The last sample of a sound, as a number from 0 on.
+fn last_sample(sound: &[u8]) {
+    let len = sound.len();
+    if len < 2 {
+        return;
+    }
+    io::write_all(1, b"last sample: ");
+    io::print_decimal(1, words::get_u16(sound, len - 2) as u64);
+    io::write_all(1, b"\n");
+}
+
+// A finish: the output's bytes and its last sample, 'nothing yet' or the bytes needed are told, and the chain goes on.
+fn ended(label: &[u8], chain: Pipeline, a: &mut [u8], b: &mut [u8]) -> Pipeline {
+    let done = finish::finish(chain, a, b);
+    let answer = done.answer;
+    match answer {
+        FinishAnswer::Output {
+            format: _,
+            half,
+            len,
+        } => {
+            line(label, 0, len);
+            last_sample(answers::output(a, b, half, len));
+        }
+        FinishAnswer::NothingYet => nothing_yet(label),
+        FinishAnswer::Refused(e) => line(label, e.number(), e.needed()),
+    }
+    done.chain
+}
+
 // A chain opened, and what opening answers.
 fn opens(label: &[u8], format: PcmFormat, recipe: &[u8]) -> Pipeline {
     let opened = Pipeline::open(format, recipe);
@@ -51,7 +83,7 @@ fn opens(label: &[u8], format: PcmFormat, recipe: &[u8]) -> Pipeline {
     opened.chain
 }
 
-// 3 mono frames from 8,000 to 16,000 Hz, with halves of 14 bytes and of 13, then cut after the first frame.
+// 3 mono frames from 8,000 to 16,000 Hz, with halves of 14 bytes and of 13, then cut after the first frame, and finished.
 fn upsampled() {
     let format = PcmFormat {
         rate: 8000,
@@ -82,7 +114,7 @@ fn upsampled() {
         &mut b,
     );
     let begun = told(b"frame 0", chain, format, b"\x00\x00", &mut a, &mut b);
-    told(
+    let fed = told(
         b"frames 1 and 2",
         begun,
         format,
@@ -90,6 +122,94 @@ fn upsampled() {
         &mut a,
         &mut b,
     );
+    finished_twice(fed);
+}
+
+fn finished_twice(chain: Pipeline) {
+    let mut a = [0u8; 14];
+    let mut b = [0u8; 14];
+    let over = ended(b"finish", chain, &mut a, &mut b);
+    ended(b"finish again", over, &mut a, &mut b);
+}
+
+// A block, and the finish after it.
+fn charge(
+    block: &[u8],
+    end: &[u8],
+    chain: Pipeline,
+    format: PcmFormat,
+    sound: &[u8],
+    a: &mut [u8],
+    b: &mut [u8],
+) -> Pipeline {
+    let fed = told(block, chain, format, sound, a, b);
+    ended(end, fed, a, b)
+}
+
+// 16,000 to 8,000 Hz: an output falls on the last of 3 frames, none on the last of 4.
+fn halved() {
+    let format = PcmFormat {
+        rate: 16000,
+        channels: 1,
+    };
+    let chain = opens(
+        b"16,000 to 8,000 Hz",
+        format,
+        b"\x0a\x00\x04\x00\x80\x3e\x00\x00\x40\x1f\x00\x00",
+    );
+    let mut a = [0u8; 14];
+    let mut b = [0u8; 14];
+    let over = charge(
+        b"3 frames",
+        b"finish after 3",
+        chain,
+        format,
+        b"\x0a\x00\x14\x00\x1e\x00",
+        &mut a,
+        &mut b,
+    );
+    charge(
+        b"4 frames",
+        b"finish after 4",
+        over,
+        format,
+        b"\x0a\x00\x14\x00\x1e\x00\x28\x00",
+        &mut a,
+        &mut b,
+    );
+}
+
+// 1,000 to 1 to 1,000 to 4,000 Hz: the finish delivers more than any block, and the halves that served the blocks are too short.
+fn widened() {
+    let format = PcmFormat {
+        rate: 1000,
+        channels: 1,
+    };
+    let chain = opens(
+        b"1,000 to 1 to 1,000 to 4,000 Hz",
+        format,
+        b"\x0a\x00\x04\x00\xe8\x03\x00\x00\x01\x00\x00\x00\x0a\x00\x04\x00\x01\x00\x00\x00\xe8\x03\x00\x00\x0a\x00\x04\x00\xe8\x03\x00\x00\xa0\x0f\x00\x00",
+    );
+    let mut sound = [0u8; 2002];
+    sound[2000] = 100;
+    let mut a = [0u8; 2002];
+    let mut b = [0u8; 2002];
+    let still = charge(
+        b"1,001 frames, halves of 2,002",
+        b"finish, halves of 2,002",
+        chain,
+        format,
+        &sound,
+        &mut a,
+        &mut b,
+    );
+    wide_finish(still);
+}
+
+fn wide_finish(chain: Pipeline) {
+    let mut a = [0u8; 8002];
+    let mut b = [0u8; 8002];
+    ended(b"finish, halves of 8,002", chain, &mut a, &mut b);
 }
 
 // 8,192 frames pass, 8,193 do not.
@@ -132,6 +252,8 @@ fn stages(nine: &[u8]) {
 
 fn main() {
     upsampled();
+    halved();
+    widened();
     longest();
     stages(
         b"\x06\x00\x01\x00\x00\x40\x00\x00\x06\x00\x01\x00\x00\x40\x00\x00\x06\x00\x01\x00\x00\x40\x00\x00\x06\x00\x01\x00\x00\x40\x00\x00\x06\x00\x01\x00\x00\x40\x00\x00\x06\x00\x01\x00\x00\x40\x00\x00\x06\x00\x01\x00\x00\x40\x00\x00\x06\x00\x01\x00\x00\x40\x00\x00\x06\x00\x01\x00\x00\x40\x00\x00",

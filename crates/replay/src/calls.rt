@@ -4,8 +4,9 @@ ghost use lib.ListN.{length};
 use crate::Step;
 use crate::input;
 use crate::input::Count;
+use crate::input::Lengths;
 use crate::output;
-use answers::Answer;
+use answers::Half;
 use cookbook::BiquadKind;
 use cookbook::Coefficients;
 use dc_block::DcBlock;
@@ -86,31 +87,26 @@ pub fn open(chain: Pipeline, buf: &mut [u8]) -> Step {
     }
 }
 
-// The output as a part of the half that holds it; empty where there is none.
-fn part<'a>(answer: Answer, a: &'a [u8], b: &'a [u8]) -> &'a [u8] {
-    match answer {
-        Answer::Output {
-            format: _,
-            timestamp: _,
-            half,
-            len,
-        } => answers::output(a, b, half, len),
-        Answer::NothingYet => answers::front(a, 0),
-        Answer::Refused(_) => answers::front(a, 0),
-    }
+// Number, needed and outcome of an answer, and the output's format.
+fn told(number: u16, needed: usize, outcome: u8, rate: u32, channels: u16) {
+    valued(number, needed as u64);
+    output::byte(outcome);
+    output::word(rate);
+    output::short(channels);
 }
 
-// Number and values of an answer, and the output part.
-fn told<'a>(answer: Answer, a: &'a [u8], b: &'a [u8]) {
-    let t = answer.told();
-    valued(t.number, t.needed as u64);
-    output::byte(t.outcome);
-    output::word(t.rate);
-    output::short(t.channels);
-    output::long(t.timestamp);
-    output::byte(t.half);
-    output::length(t.len);
-    output::bytes(part(answer, a, b));
+// The half of this number.
+fn half_of(number: u8) -> Half {
+    if number == 0 { Half::A } else { Half::B }
+}
+
+// The output's half, its length and its part, empty where there is none; then every byte that was lent.
+fn lent<'a>(half: u8, len: usize, a: &'a [u8], b: &'a [u8]) {
+    output::byte(half);
+    output::length(len);
+    output::bytes(answers::output(a, b, half_of(half), len));
+    output::bytes(a);
+    output::bytes(b);
 }
 
 fn counters(chain: Pipeline) {
@@ -118,7 +114,13 @@ fn counters(chain: Pipeline) {
     output::long(chain.empty_blocks);
 }
 
-// The block call, and every byte that was lent.
+// The counters, and the chain in use from now on.
+fn counted(chain: Pipeline) -> Step {
+    counters(chain);
+    Step { ok: true, chain }
+}
+
+// The block call and its answer.
 fn played(
     chain: Pipeline,
     format: PcmFormat,
@@ -126,67 +128,32 @@ fn played(
     sound: &[u8],
     a: &mut [u8],
     b: &mut [u8],
-) -> Pipeline {
+) -> Step {
     let done = block::process(chain, format, timestamp, sound, a, b);
     let answer = done.answer;
-    told(answer, a, b);
-    output::bytes(a);
-    output::bytes(b);
-    let next = done.chain;
-    counters(next);
-    next
+    let t = answer.told();
+    told(t.number, t.needed, t.outcome, t.rate, t.channels);
+    output::long(t.timestamp);
+    lent(t.half, t.len, a, b);
+    counted(done.chain)
 }
 
-// The same with the first n, m and k bytes.
-fn played_in(
-    chain: Pipeline,
-    format: PcmFormat,
-    timestamp: u64,
-    sound: &[u8],
-    n: usize,
-    a: &mut [u8],
-    m: usize,
-    b: &mut [u8],
-    k: usize,
-) -> Pipeline {
-    let m = input::held(m, a);
-    let k = input::held(k, b);
-    played(
-        chain,
-        format,
-        timestamp,
-        answers::front(sound, n),
-        &mut a[..m],
-        &mut b[..k],
-    )
-}
-
-// Sound and halves, and the call.
+// The halves, and the call.
 fn block_lent(
     chain: Pipeline,
     format: PcmFormat,
     timestamp: u64,
-    sound: &mut [u8],
+    sound: &[u8],
     a: &mut [u8],
     b: &mut [u8],
 ) -> Step {
-    let first = input::bytes(sound);
-    let Count::Value(n) = first else {
+    let halves = input::halves(a, b);
+    let Lengths::Values(m, k) = halves else {
         return ended(chain);
     };
-    let second = input::bytes(a);
-    let Count::Value(m) = second else {
-        return ended(chain);
-    };
-    let third = input::bytes(b);
-    let Count::Value(k) = third else {
-        return ended(chain);
-    };
-    let next = played_in(chain, format, timestamp, sound, n, a, m, b, k);
-    Step {
-        ok: true,
-        chain: next,
-    }
+    let m = input::held(m, a);
+    let k = input::held(k, b);
+    played(chain, format, timestamp, sound, &mut a[..m], &mut b[..k])
 }
 
 pub fn block(chain: Pipeline, sound: &mut [u8], a: &mut [u8], b: &mut [u8]) -> Step {
@@ -196,16 +163,35 @@ pub fn block(chain: Pipeline, sound: &mut [u8], a: &mut [u8], b: &mut [u8]) -> S
     }
     let format = format_of(&s);
     let timestamp = words::get_u64(&s, 6);
-    block_lent(chain, format, timestamp, sound, a, b)
+    let first = input::bytes(sound);
+    let Count::Value(n) = first else {
+        return ended(chain);
+    };
+    block_lent(chain, format, timestamp, answers::front(sound, n), a, b)
 }
 
 pub fn reset(chain: Pipeline) -> Step {
-    let next = chain.reset();
-    counters(next);
-    Step {
-        ok: true,
-        chain: next,
-    }
+    counted(chain.reset())
+}
+
+// The finish call and its answer.
+fn finished(chain: Pipeline, a: &mut [u8], b: &mut [u8]) -> Step {
+    let done = finish::finish(chain, a, b);
+    let answer = done.answer;
+    let t = answer.told();
+    told(t.number, t.needed, t.outcome, t.rate, t.channels);
+    lent(t.half, t.len, a, b);
+    counted(done.chain)
+}
+
+pub fn finish(chain: Pipeline, a: &mut [u8], b: &mut [u8]) -> Step {
+    let halves = input::halves(a, b);
+    let Lengths::Values(m, k) = halves else {
+        return ended(chain);
+    };
+    let m = input::held(m, a);
+    let k = input::held(k, b);
+    finished(chain, &mut a[..m], &mut b[..k])
 }
 
 // The call, and the room afterwards.

@@ -35,3 +35,22 @@ pub fn bytes(buf: &mut [u8]) -> Count {
     }
     Count::End
 }
+
+// How many bytes stand at the front of each of two halves; the end where the script ends inside them.
+pub enum Lengths {
+    Values(usize, usize),
+    End,
+}
+
+// Two halves, one after the other.
+pub fn halves(a: &mut [u8], b: &mut [u8]) -> Lengths {
+    let first = bytes(a);
+    let Count::Value(m) = first else {
+        return Lengths::End;
+    };
+    let second = bytes(b);
+    let Count::Value(k) = second else {
+        return Lengths::End;
+    };
+    Lengths::Values(m, k)
+}

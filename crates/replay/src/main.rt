@@ -18,6 +18,7 @@ fn run(code: u8, chain: Pipeline, sound: &mut [u8], a: &mut [u8], b: &mut [u8]) 
         0x01 => calls::open(chain, sound),
         0x02 => calls::block(chain, sound, a, b),
         0x03 => calls::reset(chain),
+        0x10 => calls::finish(chain, a, b),
         _ => Step {
             ok: other(code, chain, sound, a, b),
             chain,

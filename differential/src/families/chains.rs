@@ -1,11 +1,11 @@
 //! Every stage kind alone, chains of up to eight, and calls of every sort on them.
 
-use super::{Random, Session, any_frames, block_over, feed, open_any, sound_of};
+use super::{Random, Session, ample_finish, any_frames, block_over, feed, finish_over, open_any, sound_of};
 use crate::model::MOST_FRAMES;
 use crate::recipe;
 use crate::source::{Block, Format};
 
-/// Each stage kind alone: blocks of 1, 2, odd, 8,191 and 8,192 frames, a reset among them.
+/// Each stage kind alone: blocks of 1, 2, odd, 8,191 and 8,192 frames, a reset and a finish among them.
 pub fn lone(session: &mut Session, random: &mut Random) {
     for recipe in recipe::lone_stages(random, &mut session.designs) {
         session.open_recipe(&recipe);
@@ -17,6 +17,8 @@ pub fn lone(session: &mut Session, random: &mut Random) {
         for frames in [1, 31, random.choice(&[8_191, 8_192]), 5] {
             feed(session, random, frames);
         }
+        ample_finish(session, random);
+        feed(session, random, 3);
         any_call(session, random);
     }
 }
@@ -114,6 +116,11 @@ pub fn any_call(session: &mut Session, random: &mut Random) {
             let length = 1 + random.below(3);
             let recipe = random.bytes(length);
             session.open(session.chain.format, &recipe);
+        }
+        8 => _ = ample_finish(session, random),
+        9 => {
+            let lengths = [0, 0].map(|_| random.below(40));
+            finish_over(session, random, lengths);
         }
         _ => {
             let frames = any_frames(random);

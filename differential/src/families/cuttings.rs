@@ -1,6 +1,7 @@
-//! The same stream under many cuttings. The joined output must not depend on the cutting.
+//! The same stream under many cuttings. The joined output, a finish's included, must not depend on the cutting.
 
-use super::{Random, Session, ample_block, block_over, frames_that_fit};
+use super::{Random, Session, ample_block, ample_finish, block_over, frames_that_fit};
+use crate::protocol::LONGEST;
 use crate::recipe::{self, Recipe};
 use crate::source::Format;
 
@@ -19,8 +20,21 @@ fn joined(session: &mut Session, random: &mut Random, stream: &[u8], blocks: &[u
     out
 }
 
+/// The same, and what a finish adds; a reset where a script cannot lend the halves for it.
+fn joined_to_end(session: &mut Session, random: &mut Random, stream: &[u8], blocks: &[usize]) -> Vec<u8> {
+    let mut out = joined(session, random, stream, blocks);
+    if session.chain.room_at_end() > LONGEST {
+        session.reset();
+        return out;
+    }
+    let answer = ample_finish(session, random);
+    assert_eq!(answer.number, 0, "a finish within its room was refused");
+    out.extend(answer.sound.into_iter().flat_map(|sound| sound.bytes));
+    out
+}
+
 fn same_joined(session: &Session, whole: &[u8], cut: &[u8], blocks: &[usize]) {
-    assert!(whole == cut, "the source's output depends on the cutting {blocks:?} of {:02X?}", session.chain.recipe);
+    assert!(whole == cut, "the output depends on the cutting {blocks:?} of {:02X?}", session.chain.recipe);
 }
 
 /// The blocks of a cutting whose bit i tells whether frames i and i + 1 are parted.
@@ -36,15 +50,44 @@ fn blocks_of(cutting: usize, frames: usize) -> Vec<usize> {
     blocks
 }
 
+/// Resamplers alone that do not make too much of a frame.
+fn resamplings() -> impl Iterator<Item = Recipe> {
+    let rates = recipe::RESAMPLINGS.into_iter().filter(|rates| rates[1] / rates[0] < 12).chain([[3, 2], [7, 3]]);
+    rates.flat_map(|rates| [1, 2].map(|channels| Recipe { format: Format { rate: rates[0], channels }, bytes: recipe::resample(rates) }))
+}
+
+/// All cuttings of streams of 1 to 8 frames that end in a finish, for resamplers alone and for chains of several. Each begins after
+/// a finish, a reset or an opening.
+pub fn finished(session: &mut Session, random: &mut Random) {
+    let chains: Vec<Recipe> = (0..40).map(|i| recipe::resamplers(random, 2 + i % 7, &mut session.designs)).collect();
+    for recipe in resamplings().chain(chains) {
+        session.open_recipe(&recipe);
+        if frames_that_fit(session, 8) < 8 {
+            continue;
+        }
+        for frames in 1..=8usize {
+            let stream = random.sound(frames * recipe.format.frame());
+            let whole = joined_to_end(session, random, &stream, &[frames]);
+            for cutting in 1..1usize << (frames - 1) {
+                match cutting % 6 {
+                    0 => session.reset(),
+                    3 => _ = session.open_recipe(&recipe),
+                    _ => (),
+                }
+                let blocks = blocks_of(cutting, frames);
+                let cut = joined_to_end(session, random, &stream, &blocks);
+                same_joined(session, &whole, &cut, &blocks);
+            }
+        }
+    }
+}
+
 /// All cuttings of streams of 1 to 8 frames, for each stage kind.
 pub fn short(session: &mut Session, random: &mut Random) {
     let mut lone = recipe::lone_stages(random, &mut session.designs);
     lone.retain(|recipe| recipe.bytes.get(2) != Some(&(recipe::RESAMPLE as u8)));
-    let rates = recipe::RESAMPLINGS.into_iter().filter(|rates| rates[1] / rates[0] < 12).chain([[3, 2], [7, 3]]);
-    let resamplings = rates
-        .flat_map(|rates| [1, 2].map(|channels| Recipe { format: Format { rate: rates[0], channels }, bytes: recipe::resample(rates) }));
     let others = lone.split_off(3).into_iter().step_by(3);
-    for recipe in lone.into_iter().chain(others).chain(resamplings) {
+    for recipe in lone.into_iter().chain(others).chain(resamplings()) {
         for frames in 1..=8usize {
             let stream = random.sound(frames * recipe.format.frame());
             session.open_recipe(&recipe);
@@ -73,7 +116,7 @@ fn random_cutting(random: &mut Random, frames: usize, most: usize) -> Vec<usize>
     blocks
 }
 
-/// Random cuttings of streams of some thousand frames through random chains, refused blocks among them.
+/// Random cuttings of streams of some thousand frames through random chains, refused blocks among them, a finish at the end.
 pub fn long(session: &mut Session, random: &mut Random) {
     for _ in 0..150 {
         let stages = 1 + random.below(8);
@@ -89,7 +132,7 @@ pub fn long(session: &mut Session, random: &mut Random) {
             }
             let blocks = random_cutting(random, frames, most);
             block_over(session, random, &stream[..recipe.format.frame()], [0, 0]);
-            let cut = joined(session, random, &stream, &blocks);
+            let cut = joined_to_end(session, random, &stream, &blocks);
             match &whole {
                 None => whole = Some(cut),
                 Some(whole) => same_joined(session, whole, &cut, &blocks),

@@ -12,6 +12,7 @@ pub fn one_of_each(session: &mut Session) {
     session.open(format, &[2, 0, 2, 0]);
     session.block(Block { format, timestamp: 9, sound: &[1, 2], halves: [&[0; 4], &[0; 5]] });
     session.reset();
+    session.finish([&[6; 2], &[7; 3]]);
     session.write_recipe(vec![8; 5]);
     let _ = session.scratch_bytes(4);
     session.output_format();
@@ -40,7 +41,7 @@ pub fn every(session: &mut Session, _: &mut Random) {
 }
 
 fn unknown(session: &mut Session) {
-    for command in (0..=255).filter(|command| !(OPEN..=SAT16).contains(command)) {
+    for command in (0..=255).filter(|command| command_of(*command).is_none()) {
         session.run_to_end_mark(&[command]);
         one_of_each(session);
         session.run_to_end_mark(&[command, SAT16, 0, 0, 0, 0]);
@@ -52,7 +53,7 @@ fn unknown(session: &mut Session) {
 
 /// Each "bytes" field one over the limit, and with the longest length that four bytes can say.
 fn too_long(session: &mut Session) {
-    let fields: [(u8, &[usize]); 4] = [(OPEN, &[6]), (BLOCK, &[14, 18, 22]), (WRITE_RECIPE, &[0]), (MIX, &[0, 4, 8])];
+    let fields: [(u8, &[usize]); 5] = [(OPEN, &[6]), (BLOCK, &[14, 18, 22]), (WRITE_RECIPE, &[0]), (MIX, &[0, 4, 8]), (FINISH, &[0, 4])];
     for (command, places) in fields {
         for before in places {
             for length in [LONGEST as u32 + 1, 1 << 31, u32::MAX] {

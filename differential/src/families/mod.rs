@@ -3,13 +3,14 @@
 mod chains;
 mod cuttings;
 mod ends;
+mod finishes;
 mod numbers;
 mod recipes;
 mod room;
 pub mod sample;
 mod samples;
 
-use crate::model::{BlockAnswer, MOST_FRAMES};
+use crate::model::{Answer, MOST_FRAMES};
 use crate::protocol::LONGEST;
 use crate::random::Random;
 use crate::recipe::{self, Recipe};
@@ -19,12 +20,15 @@ use crate::source::Block;
 type Family = (&'static str, fn(&mut Session, &mut Random));
 
 /// The same cases whatever the seed.
-const FIXED: [Family; 10] = [
+const FIXED: [Family; 13] = [
     ("short recipes", recipes::short),
     ("record lengths", recipes::lengths),
     ("limits of settings", recipes::limits),
     ("nine records", recipes::nine),
     ("cuttings of short streams", cuttings::short),
+    ("cuttings of finished streams", cuttings::finished),
+    ("finishes after every length", finishes::lengths),
+    ("finishes, one frame that becomes many", finishes::wide),
     ("every length", room::every_length),
     ("rounding beside every half", numbers::halves),
     ("all samples at many gains", samples::gains),
@@ -33,12 +37,14 @@ const FIXED: [Family; 10] = [
 ];
 
 /// Other cases with every seed.
-const SEEDED: [Family; 11] = [
+const SEEDED: [Family; 13] = [
     ("stages alone", chains::lone),
     ("chains", chains::any),
     ("chains, long blocks", chains::long_blocks),
     ("refused blocks", chains::refused_blocks),
     ("room", room::climb),
+    ("finishes at any rates", finishes::rates),
+    ("finishes of chains", finishes::of_chains),
     ("scratch_bytes", room::scratch),
     ("recipes cut and damaged", recipes::damaged),
     ("cuttings of long streams", cuttings::long),
@@ -71,7 +77,7 @@ fn open_any(session: &mut Session, random: &mut Random, stages: usize) -> Recipe
 }
 
 /// A block in the chain's format, with halves of the lengths given and any contents.
-fn block_over(session: &mut Session, random: &mut Random, sound: &[u8], lengths: [usize; 2]) -> BlockAnswer {
+fn block_over(session: &mut Session, random: &mut Random, sound: &[u8], lengths: [usize; 2]) -> Answer {
     let halves = lengths.map(|length| random.bytes(length));
     let timestamp = if random.one_in(8) { u64::MAX } else { random.next() };
     session.block(Block { format: session.chain.format, timestamp, sound, halves: [&halves[0], &halves[1]] })
@@ -82,11 +88,28 @@ fn ample_half(session: &mut Session, length: usize) -> usize {
     session.chain.scratch_bytes(length as u64).map_or(length, |figure| (figure as usize / 2).min(LONGEST))
 }
 
+/// Halves of so many bytes or a few more, as far as a script can lend them.
+fn from_half(random: &mut Random, half: usize) -> [usize; 2] {
+    [half, half].map(|half| (half + random.choice(&[0, 0, 1, 2, 7])).min(LONGEST))
+}
+
 /// A block with halves that suffice.
-fn ample_block(session: &mut Session, random: &mut Random, sound: &[u8]) -> BlockAnswer {
+fn ample_block(session: &mut Session, random: &mut Random, sound: &[u8]) -> Answer {
     let half = ample_half(session, sound.len());
-    let lengths = [half, half].map(|half| (half + random.choice(&[0, 0, 1, 2, 7])).min(LONGEST));
+    let lengths = from_half(random, half);
     block_over(session, random, sound, lengths)
+}
+
+/// A finish with halves of the lengths given and any contents.
+fn finish_over(session: &mut Session, random: &mut Random, lengths: [usize; 2]) -> Answer {
+    let halves = lengths.map(|length| random.bytes(length));
+    session.finish([&halves[0], &halves[1]])
+}
+
+/// A finish with halves that suffice, as far as a script can lend them.
+fn ample_finish(session: &mut Session, random: &mut Random) -> Answer {
+    let lengths = from_half(random, session.chain.room_at_end());
+    finish_over(session, random, lengths)
 }
 
 /// At most so many frames that a script can lend the halves.
@@ -106,7 +129,7 @@ fn sound_of(session: &mut Session, random: &mut Random, frames: usize) -> Vec<u8
 }
 
 /// A block of so many frames, or as many as fit, with halves that suffice.
-fn feed(session: &mut Session, random: &mut Random, frames: usize) -> BlockAnswer {
+fn feed(session: &mut Session, random: &mut Random, frames: usize) -> Answer {
     let sound = sound_of(session, random, frames);
     ample_block(session, random, &sound)
 }

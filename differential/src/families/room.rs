@@ -1,7 +1,7 @@
 //! Halves exactly full, one byte short at each stage in turn, unequal and empty; the scratch figure.
 
 use super::{Random, Session, ample_block, any_frames, block_over, open_any, sound_of};
-use crate::model::BUFFER_TOO_SMALL;
+use crate::model::{Answer, BUFFER_TOO_SMALL};
 use crate::protocol::LONGEST;
 use crate::recipe::{self, Recipe};
 
@@ -13,23 +13,24 @@ pub fn climb(session: &mut Session, random: &mut Random) {
         for _ in 0..3 {
             let frames = any_frames(random).min(200);
             let sound = sound_of(session, random, frames);
-            climb_once(session, random, &sound);
+            climb_once(session, random, |session, random, lengths| block_over(session, random, &sound, lengths));
         }
     }
 }
 
-fn climb_once(session: &mut Session, random: &mut Random, sound: &[u8]) {
+/// One climb by a call over halves of the lengths given.
+pub fn climb_once(session: &mut Session, random: &mut Random, call: impl Fn(&mut Session, &mut Random, [usize; 2]) -> Answer) {
     let mut room = 0;
     loop {
         let larger = (room + 1 + random.below(9)).min(LONGEST);
         let lengths = random.choice(&[[room, room], [room, larger], [larger, room]]);
-        let answer = block_over(session, random, sound, lengths);
+        let answer = call(session, random, lengths);
         if answer.number != BUFFER_TOO_SMALL || answer.needed as usize / 2 > LONGEST {
             return;
         }
         room = answer.needed as usize / 2;
         for short in [[room - 1, room - 1], [room - 1, larger.max(room)], [larger.max(room), room - 1], [0, room], [room, 0]] {
-            block_over(session, random, sound, short);
+            call(session, random, short);
         }
     }
 }

@@ -1,7 +1,10 @@
 //! A sample of scripts, small enough to store, that reaches every command, refusal, outcome and stage kind.
 
-use super::{Random, Session, ample_block, ample_half, any_frames, block_over, chains, ends, numbers, open_any, sound_of};
-use crate::protocol::{BLOCK, COMMANDS, END_MARK};
+use super::{
+    Random, Session, ample_block, ample_finish, ample_half, any_frames, block_over, chains, ends, finish_over, finishes, numbers, open_any,
+    sound_of,
+};
+use crate::protocol::{BLOCK, COMMANDS, END_MARK, FINISH};
 use crate::recipe;
 use crate::source::Format;
 use std::collections::BTreeSet;
@@ -14,6 +17,7 @@ pub fn gather(session: &mut Session, random: &mut Random) {
     let sounded = stages(session, random);
     longest_block(session, random);
     any_chains(session, random);
+    finishes::few(session, random);
     damaged(session, random);
     numbers::few(session, random);
     session.script.push(END_MARK);
@@ -54,7 +58,10 @@ fn any_chains(session: &mut Session, random: &mut Random) {
         open_any(session, random, stages);
         session.output_format();
         let _ = session.scratch_bytes(random.below(40_000) as u64);
-        for _ in 0..5 {
+        for turn in 0..5 {
+            if turn == 3 {
+                short_finish(session, random);
+            }
             let frames = any_frames(random).min(9);
             let sound = sound_of(session, random, frames);
             let half = ample_half(session, sound.len());
@@ -71,6 +78,15 @@ fn any_chains(session: &mut Session, random: &mut Random) {
         if random.one_in(6) {
             chains::wrong_formats(session, random, &[1, 3]);
         }
+    }
+}
+
+/// A finish that is short where something is due, and one that suits where a short half holds it.
+fn short_finish(session: &mut Session, random: &mut Random) {
+    let room = session.chain.room_at_end();
+    finish_over(session, random, [room.saturating_sub(1).min(9), SHORT_HALF]);
+    if room <= SHORT_HALF {
+        ample_finish(session, random);
     }
 }
 
@@ -97,8 +113,10 @@ fn damaged(session: &mut Session, random: &mut Random) {
 fn check(session: &Session, sounded: &BTreeSet<u8>) {
     let reached = &session.reached;
     let has = |wanted: &dyn Fn(&(u8, u16, u8)) -> bool| reached.keys().any(wanted);
-    (1..=COMMANDS.len() as u8).for_each(|command| assert!(has(&|seen| seen.0 == command), "command {command} is not in the sample"));
+    COMMANDS.iter().for_each(|command| assert!(has(&|seen| seen.0 == command.code), "{} is not in the sample", command.name));
     (1..=10).for_each(|number| assert!(has(&|seen| seen.1 == number), "refusal {number} is not in the sample"));
-    (0..=2).for_each(|outcome| assert!(has(&|seen| seen.0 == BLOCK && seen.2 == outcome), "outcome {outcome} is not in the sample"));
+    for (command, outcome) in [BLOCK, FINISH].into_iter().flat_map(|command| [0, 1, 2].map(|outcome| (command, outcome))) {
+        assert!(has(&|seen| seen.0 == command && seen.2 == outcome), "outcome {outcome} of command {command} is not in the sample");
+    }
     (1..=6).for_each(|kind| assert!(sounded.contains(&kind), "stage kind {kind} makes no sound in the sample"));
 }

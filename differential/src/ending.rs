@@ -1,0 +1,94 @@
+//! The end of a stream (document 02, Q-1), which the Rust does not have. What a stage makes of the frames that arrive is the Rust's;
+//! a resampler's last frame is worked out beside it, from the count of frames that it received.
+
+use crate::source::{Address, Buffer, Format, Stage};
+use oracle::elements::LinearResampler;
+use oracle::esp_core::error::Result;
+use oracle::esp_core::pcm::{PcmBlock, PcmFormat};
+use oracle::pipeline::Element;
+
+/// The Rust's resampler, and what it received and delivered since its stream began.
+#[derive(Clone)]
+pub struct Resampler {
+    own: LinearResampler,
+    rates: [u64; 2],
+    received: u64,
+    delivered: u64,
+    last: Vec<u8>,
+}
+
+impl Resampler {
+    pub fn new(rates: [u32; 2]) -> Result<Self> {
+        let own = LinearResampler::new(rates[0], rates[1])?;
+        Ok(Resampler { own, rates: rates.map(u64::from), received: 0, delivered: 0, last: vec![] })
+    }
+
+    /// The last of T frames, where the rates are unequal and (T - 1) × out ÷ in is whole; else nothing. With it
+    /// floor((T - 1) × out ÷ in) + 1 are delivered in all, for T at least 1.
+    fn last_frame(&self) -> &[u8] {
+        let [input, output] = self.rates;
+        if input == output || self.received == 0 {
+            return &[];
+        }
+        let at = (self.received - 1) * output;
+        let falls = at.is_multiple_of(input);
+        assert_eq!(self.delivered + u64::from(falls), at / input + 1, "{} frames from {input} to {output} Hz", self.received);
+        if falls { &self.last } else { &[] }
+    }
+}
+
+impl Element for Resampler {
+    fn output_format(&self, input: PcmFormat) -> Result<PcmFormat> {
+        self.own.output_format(input)
+    }
+
+    fn max_output_bytes(&self, input: PcmFormat, input_bytes: usize) -> usize {
+        self.own.max_output_bytes(input, input_bytes)
+    }
+
+    fn process(&mut self, input: PcmBlock<'_>, out: &mut [u8]) -> Result<usize> {
+        let written = self.own.process(input, out)?;
+        let frame = input.format.frame_bytes();
+        self.received += input.frames() as u64;
+        self.delivered += (written / frame) as u64;
+        self.last.clear();
+        self.last.extend_from_slice(&input.data[input.data.len() - frame..]);
+        Ok(written)
+    }
+
+    fn reset(&mut self) {
+        self.own.reset();
+        (self.received, self.delivered) = (0, 0);
+        self.last.clear();
+    }
+}
+
+/// What a stage delivers that takes what arrives, and ends; its format becomes the one that leaves it.
+fn stage_end(stage: &mut Stage, format: &mut Format, arriving: &[u8], address: Address) -> Vec<u8> {
+    let reaching = format.pcm();
+    let element = stage.element();
+    *format = element.output_format(reaching).expect("a chain that opened").into();
+    let mut delivered = vec![];
+    if !arriving.is_empty() {
+        let input = Buffer::new(&[arriving], address);
+        let mut out = Buffer::new(&[&vec![0; element.max_output_bytes(reaching, arriving.len())]], address);
+        let block = PcmBlock::new(reaching, 0, input.get()).expect("whole frames");
+        let written = element.process(block, out.get_mut()).expect("room for all it makes");
+        delivered.extend_from_slice(&out.get()[..written]);
+    }
+    if let Stage::Resample(resampler) = stage {
+        delivered.extend_from_slice(resampler.last_frame());
+    }
+    delivered
+}
+
+/// What each stage of a chain delivers at its end: all that the one before delivers arrives first. The stages do not move.
+pub fn delivered(stages: &[Stage], mut format: Format, address: Address) -> Vec<Vec<u8>> {
+    let mut delivered: Vec<Vec<u8>> = vec![];
+    for mut stage in stages.iter().cloned() {
+        let arriving = delivered.last().map_or(&[][..], Vec::as_slice);
+        let bytes = stage_end(&mut stage, &mut format, arriving, address);
+        delivered.push(bytes);
+    }
+    delivered
+}
