@@ -75,6 +75,10 @@ fn ended(label: &[u8], chain: Pipeline, a: &mut [u8], b: &mut [u8]) -> Pipeline 
     done.chain
 }
 
+fn mono(rate: u32) -> PcmFormat {
+    PcmFormat { rate, channels: 1 }
+}
+
 // A chain opened, and what opening answers.
 fn opens(label: &[u8], format: PcmFormat, recipe: &[u8]) -> Pipeline {
     let opened = Pipeline::open(format, recipe);
@@ -85,10 +89,7 @@ fn opens(label: &[u8], format: PcmFormat, recipe: &[u8]) -> Pipeline {
 
 // 3 mono frames from 8,000 to 16,000 Hz, with halves of 14 bytes and of 13, then cut after the first frame, and finished.
 fn upsampled() {
-    let format = PcmFormat {
-        rate: 8000,
-        channels: 1,
-    };
+    let format = mono(8000);
     let chain = opens(
         b"8,000 to 16,000 Hz",
         format,
@@ -148,10 +149,7 @@ fn charge(
 
 // 16,000 to 8,000 Hz: an output falls on the last of 3 frames, none on the last of 4.
 fn halved() {
-    let format = PcmFormat {
-        rate: 16000,
-        channels: 1,
-    };
+    let format = mono(16000);
     let chain = opens(
         b"16,000 to 8,000 Hz",
         format,
@@ -181,10 +179,7 @@ fn halved() {
 
 // 1,000 to 1 to 1,000 to 4,000 Hz: the finish delivers more than any block, and the halves that served the blocks are too short.
 fn widened() {
-    let format = PcmFormat {
-        rate: 1000,
-        channels: 1,
-    };
+    let format = mono(1000);
     let chain = opens(
         b"1,000 to 1 to 1,000 to 4,000 Hz",
         format,
@@ -214,10 +209,7 @@ fn wide_finish(chain: Pipeline) {
 
 // 8,192 frames pass, 8,193 do not.
 fn longest() {
-    let format = PcmFormat {
-        rate: 16000,
-        channels: 1,
-    };
+    let format = mono(16000);
     let chain = opens(b"no stages", format, b"");
     let sound = io::large_buffer();
     let mut a = io::large_buffer();

@@ -34,40 +34,31 @@ fn taken(format: PcmFormat, s: Stage, input: &[u8], out: &mut [u8]) -> Applied
         }
         StageKind::MonoToStereo => {
             channels::mono_to_stereo(input, out);
-            Applied {
-                memory,
-                len: len * 2,
-            }
+            let len = len * 2;
+            Applied { memory, len }
         }
         StageKind::StereoToMono => {
             channels::stereo_to_mono(input, out);
-            Applied {
-                memory,
-                len: len / 2,
-            }
+            let len = len / 2;
+            Applied { memory, len }
         }
         StageKind::Resample(r) => {
             let held = stage::held_samples(resampler);
             let t = resample::process(r, held, channels, input, out);
             let resampler = t.state;
-            Applied {
-                memory: SoundMemory { filter, resampler },
-                len: t.frames * (channels * 2),
-            }
+            let memory = SoundMemory { filter, resampler };
+            let len = t.frames * (channels * 2);
+            Applied { memory, len }
         }
         StageKind::DcBlock(d) => {
             let filter = d.process(input, out, channels, filter);
-            Applied {
-                memory: SoundMemory { filter, resampler },
-                len,
-            }
+            let memory = SoundMemory { filter, resampler };
+            Applied { memory, len }
         }
         StageKind::Biquad(f) => {
             let filter = f.process(input, out, channels, filter);
-            Applied {
-                memory: SoundMemory { filter, resampler },
-                len,
-            }
+            let memory = SoundMemory { filter, resampler };
+            Applied { memory, len }
         }
     }
 }

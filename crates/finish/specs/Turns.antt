@@ -33,6 +33,7 @@ endFrom w = ask (w .legal) InvalidFormat (ask (eqb (w .short) 0) (BufferTooSmall
 abbrev pub sourceFor : ℕ → ℕ → Halves → List ℕ
 sourceFor i n h = cond (eqb (i % 2) 0) (take n (h .b)) (take n (h .a))
 
+-- stage i + 1 has taken xs and ended: so many bytes stand at the front of its half, and no other byte has changed
 pub record EndTurn (f : PcmFormat) (s : Stage) (xs : List Frame) (i len : ℕ) (before after : Halves) : Type 0 where
   pub size : len ≡ length (bytesOf (stageEnd (f .channels) s xs))
   pub gives : after ≡ put i (bytesOf (stageEnd (f .channels) s xs)) before
