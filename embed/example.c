@@ -1,6 +1,6 @@
 /* A chain for 48,000 Hz mono: resample to 16,000 Hz, DC block at 20 Hz, low-pass at 3,000 Hz (q 0.707), gain 1.5.
- * Runs blocks of a made-up sound through it, finishes the stream and prints the frames that come out; the output goes to the
- * file named by the first argument, if there is one. */
+ * Runs blocks of a made-up sound through it, finishes the stream and prints the frames that come out and how many samples were
+ * clipped; the output goes to the file named by the first argument, if there is one. */
 #include "muzgleur.h"
 
 #include <stdbool.h>
@@ -48,16 +48,20 @@ static void show(uint8_t outcome, uint16_t number, size_t needed, uint8_t half, 
 static void run_stream(FILE *out) {
     static const size_t frames[] = {480, 480, 1, 479, 1, 1, 479};
     uint64_t at = 0;
+    size_t clipped = 0;
     for (size_t i = 0; i < sizeof frames / sizeof *frames; i++) {
         made_up(sound, frames[i], at);
         muzgleur_block_result done = muzgleur_block(chain, WORDS, 48000, 1, at, sound, 2 * frames[i], a, sizeof a, b, sizeof b);
         at += frames[i];
+        clipped += done.clipped;
         printf("%3zu frames in, ", frames[i]);
         show(done.outcome, done.number, done.needed, done.half, done.len, out);
     }
     muzgleur_finish_result last = muzgleur_finish(chain, WORDS, a, sizeof a, b, sizeof b);
     printf("finish, ");
     show(last.outcome, last.number, last.needed, last.half, last.len, out);
+    clipped += last.clipped;
+    printf("%zu samples clipped\n", clipped);
 }
 
 /* Calls that are refused; the chain stays as it was. */

@@ -34,6 +34,7 @@ typedef struct {
     uint64_t timestamp;
     uint8_t half; /* 0 is a, 1 is b */
     size_t len;
+    size_t clipped; /* how many samples the stages held back in this call; 0 for a refusal */
 } muzgleur_block_result;
 
 typedef struct {
@@ -44,6 +45,7 @@ typedef struct {
     uint16_t channels;
     uint8_t half; /* 0 is a, 1 is b */
     size_t len;
+    size_t clipped; /* how many samples the stages held back in this call; 0 for a refusal */
 } muzgleur_finish_result;
 
 typedef struct {

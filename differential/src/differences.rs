@@ -13,11 +13,11 @@ fn one_frame(stages: &[Stage], blocks: u64, half: usize) -> Ran {
 }
 
 fn refused_blocks() {
-    let ran = one_frame(&[Stage::Gain(Gain::UNITY)], 0, 0);
+    let ran = one_frame(&[Stage::gain(Gain::UNITY.q15())], 0, 0);
     assert_eq!((ran.answer.map_err(refusal), ran.counters), (Err((BUFFER_TOO_SMALL, 4)), [1, 0]), "a refused block is counted");
-    let ran = one_frame(&[Stage::Gain(Gain::UNITY), Stage::MonoToStereo(MonoToStereo)], 0, 2);
+    let ran = one_frame(&[Stage::gain(Gain::UNITY.q15()), Stage::MonoToStereo(MonoToStereo)], 0, 2);
     assert_eq!((ran.answer.map_err(refusal), &ran.halves[0]), (Err((BUFFER_TOO_SMALL, 8)), &vec![0, 1]), "an early stage has written");
-    let ran = one_frame(&[Stage::DcBlock(DcBlock::new()), Stage::MonoToStereo(MonoToStereo)], 0, 2);
+    let ran = one_frame(&[Stage::dc_block(20.0), Stage::MonoToStereo(MonoToStereo)], 0, 2);
     let again = one_frame(&ran.stages, 0, 4);
     assert_eq!(again.halves[1], [254, 0, 254, 0], "an early stage has moved: 256 comes out as 254");
 }
@@ -28,7 +28,7 @@ fn counters() {
 }
 
 fn formats_and_lengths() {
-    let gain = [Stage::Gain(Gain::from_q15(16_384))];
+    let gain = [Stage::gain(16_384)];
     let (sound, room) = (vec![2; 4 * 8_193], vec![0; 4 * 8_193]);
     for format in [MONO, Format { rate: 48_000, channels: 2 }] {
         let block = Block { format, timestamp: 0, sound: &sound[..8_193 * format.frame()], halves: [&room, &room] };

@@ -1,7 +1,7 @@
 //! The end of a stream (document 02, Q-1), which the Rust does not have. What a stage makes of the frames that arrive is the Rust's;
 //! a resampler's last frame is worked out beside it, from the count of frames that it received.
 
-use crate::source::{Address, Buffer, Format, Stage};
+use crate::source::{Address, Buffer, Format, Stage, take_clipped};
 use oracle::elements::LinearResampler;
 use oracle::esp_core::error::Result;
 use oracle::esp_core::pcm::{PcmBlock, PcmFormat};
@@ -82,13 +82,19 @@ fn stage_end(stage: &mut Stage, format: &mut Format, arriving: &[u8], address: A
     delivered
 }
 
-/// What each stage of a chain delivers at its end: all that the one before delivers arrives first. The stages do not move.
-pub fn delivered(stages: &[Stage], mut format: Format, address: Address) -> Vec<Vec<u8>> {
-    let mut delivered: Vec<Vec<u8>> = vec![];
-    for mut stage in stages.iter().cloned() {
+/// What each stage of a chain delivers at its end, and how many samples were held back.
+pub struct End {
+    pub delivered: Vec<Vec<u8>>,
+    pub clipped: u64,
+}
+
+/// At each stage all that the one before delivers arrives first. The stages do not move.
+pub fn end(stages: &[Stage], mut format: Format, address: Address) -> End {
+    let (mut stages, mut delivered) = (stages.to_vec(), Vec::<Vec<u8>>::new());
+    for stage in &mut stages {
         let arriving = delivered.last().map_or(&[][..], Vec::as_slice);
-        let bytes = stage_end(&mut stage, &mut format, arriving, address);
+        let bytes = stage_end(stage, &mut format, arriving, address);
         delivered.push(bytes);
     }
-    delivered
+    End { delivered, clipped: take_clipped(&mut stages) }
 }

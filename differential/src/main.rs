@@ -5,6 +5,7 @@
 //!     differential REPLAY --times       says what each family took and which answers were reached
 //!     differential --sample DIR         writes a sample of script and answers as DIR/stdin and DIR/stdout
 
+mod clipping;
 mod differences;
 mod ending;
 mod families;
@@ -41,10 +42,15 @@ fn compare(replay: PathBuf, rounds: u64, timed: bool) {
     for round in 0..rounds {
         families::run(&mut session, SEED + round, round == 0, timed);
     }
+    session.settle();
     if timed {
         for ((command, number, outcome), answers) in &session.reached {
             let name = protocol::command_of(*command).map_or("unknown", |command| command.name);
             println!("{name}, number {number}, outcome {outcome}: {}", grouped(*answers));
+        }
+        for ((command, outcome), clipped) in &session.clipped {
+            let name = protocol::command_of(*command).map_or("unknown", |command| command.name);
+            println!("{name}, outcome {outcome}: {} samples clipped", grouped(*clipped));
         }
     }
     println!("differential: {} answers, {} bytes, 0 differ", grouped(session.tally.answers), grouped(session.tally.bytes));

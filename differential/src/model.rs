@@ -1,9 +1,10 @@
 //! What every call must answer: the questions of documents 01 and 02 in their order, and the Rust's values wherever it has the call.
 
-use crate::ending::{self, Resampler};
+use crate::clipping;
+use crate::ending::{self, End, Resampler};
 use crate::recipe::{self, Designs};
 use crate::source::{self, ADDRESSES, Address, Block, Buffer, Format, Ran, Sound, Stage, refusal};
-use oracle::elements::{Biquad, BiquadKind, Coefficients, DcBlock, Gain, LinearResampler, MonoToStereo, StereoToMono, mix_i16};
+use oracle::elements::{BiquadKind, Coefficients, DcBlock, LinearResampler, MonoToStereo, StereoToMono, mix_i16};
 use std::f64::consts::TAU;
 
 pub const INVALID_FORMAT: u16 = 1;
@@ -25,12 +26,11 @@ pub fn rate_allowed(rate: u32) -> bool {
     (1..=384_000).contains(&rate)
 }
 
-/// A chain in use, with the Rust's stages twice: run on buffers at even and at odd addresses.
+/// A chain in use, with the Rust's stages twice: run on buffers at even addresses, where a second reading runs beside them and counts, and
+/// at odd ones.
 pub struct Chain {
     pub format: Format,
     pub recipe: Vec<u8>,
-    /// Every biquad's coefficients are those of a kind, so the Rust can run the chain.
-    pub comparable: bool,
     stages: [Vec<Stage>; 2],
     pub counters: [u64; 2],
 }
@@ -60,9 +60,10 @@ fn read_record(recipe: &[u8]) -> Result<Record<'_>, u16> {
     Ok((kind, fields, &recipe[end..]))
 }
 
-/// The stage of a record whose settings are within their limits, and whether the Rust has its filter.
-fn stage(kind: u16, fields: &[u8], designs: &Designs) -> Result<(Stage, bool), u16> {
+/// The stage of a record whose settings are within their limits.
+fn stage(kind: u16, fields: &[u8], designs: &Designs) -> Result<Stage, u16> {
     let field = |i: usize| u32::from_le_bytes(fields[4 * i..4 * i + 4].try_into().unwrap());
+    let float = |i: usize| f32::from_bits(field(i));
     let rates = match kind {
         recipe::RESAMPLE => vec![field(0), field(1)],
         recipe::BIQUAD => vec![field(0)],
@@ -71,25 +72,19 @@ fn stage(kind: u16, fields: &[u8], designs: &Designs) -> Result<(Stage, bool), u
     if !rates.into_iter().all(rate_allowed) || kind == recipe::GAIN && (field(0) as i32).unsigned_abs() > GAIN_LIMIT {
         return Err(SETTING_OUT_OF_RANGE);
     }
-    let known = kind != recipe::BIQUAD || designs.contains_key(fields);
-    let stage = match kind {
-        recipe::GAIN => Stage::Gain(Gain::from_q15(field(0) as i32)),
+    Ok(match kind {
+        recipe::GAIN => Stage::gain(field(0) as i32),
         recipe::MONO_TO_STEREO => Stage::MonoToStereo(MonoToStereo),
         recipe::STEREO_TO_MONO => Stage::StereoToMono(StereoToMono),
         recipe::RESAMPLE => Stage::Resample(Resampler::new([field(0), field(1)]).unwrap()),
-        recipe::DC_BLOCK => Stage::DcBlock(DcBlock::with_corner(f32::from_bits(field(0)))),
-        _ => {
-            // Where no kind gives the coefficients, one stands in that gives the same formats and rooms.
-            let other = BiquadKind::Notch { f0: field(0) as f32 / 4.0, q: 1.0 };
-            Stage::Biquad(Biquad::new(designs.get(fields).copied().unwrap_or(other)))
-        }
-    };
-    Ok((stage, known))
+        recipe::DC_BLOCK => Stage::dc_block(float(0)),
+        _ => Stage::biquad([1, 2, 3, 4, 5].map(float), designs.get(fields).copied()),
+    })
 }
 
 /// The format after a stage that suits the one before it: the Rust's answer, and the rate that a biquad was designed for.
 fn suited(stage: &mut Stage, fields: &[u8], reaching: Format) -> Result<Format, u16> {
-    if matches!(stage, Stage::Biquad(_)) && fields[..4] != reaching.rate.to_le_bytes() {
+    if matches!(stage, Stage::Biquad(_) | Stage::Undesigned(_)) && fields[..4] != reaching.rate.to_le_bytes() {
         return Err(UNSUPPORTED);
     }
     stage.element().output_format(reaching.pcm()).map(Format::from).map_err(|error| refusal(error).0)
@@ -99,19 +94,19 @@ pub fn open(format: Format, bytes: &[u8], designs: &Designs) -> Result<Chain, u1
     if !rate_allowed(format.rate) || !(1..=2).contains(&format.channels) {
         return Err(INVALID_FORMAT);
     }
-    let (mut stages, mut comparable, mut reaching, mut rest) = (vec![], true, format, bytes);
+    let (mut stages, mut reaching, mut rest) = (vec![], format, bytes);
     while !rest.is_empty() {
         let (kind, fields, after) = read_record(rest)?;
         if stages.len() == MOST_STAGES {
             return Err(TOO_MANY_STAGES);
         }
-        let (mut stage, known) = stage(kind, fields, designs)?;
+        let mut stage = stage(kind, fields, designs)?;
         reaching = suited(&mut stage, fields, reaching)?;
         stages.push(stage);
-        comparable &= known;
         rest = after;
     }
-    Ok(Chain { format, recipe: bytes.to_vec(), comparable, stages: [stages.clone(), stages], counters: [0; 2] })
+    let unread = stages.iter().cloned().map(Stage::unread).collect();
+    Ok(Chain { format, recipe: bytes.to_vec(), stages: [stages, unread], counters: [0; 2] })
 }
 
 /// What a block or a finish answers.
@@ -122,6 +117,7 @@ pub struct Answer {
     pub sound: Option<Sound>,
     pub halves: [Vec<u8>; 2],
     pub counters: [u64; 2],
+    pub clipped: u64,
 }
 
 impl Answer {
@@ -153,15 +149,14 @@ impl Chain {
         };
         let Some(ran) = ran else {
             let halves = block.halves.map(<[u8]>::to_vec);
-            return Answer { number, needed, sound: None, halves, counters: self.counters };
+            return Answer { number, needed, sound: None, halves, counters: self.counters, clipped: 0 };
         };
         self.counters = ran.counters;
-        Answer { number, needed, sound: ran.answer.unwrap(), halves: ran.halves, counters: self.counters }
+        Answer { number, needed, sound: ran.answer.unwrap(), halves: ran.halves, counters: self.counters, clipped: ran.clipped }
     }
 
     /// The Rust's answer over buffers at even and odd addresses, which must agree; its stages are kept where it took the block.
     fn run(&mut self, block: Block) -> (u16, u64, Option<Ran>) {
-        assert!(self.comparable, "a block for coefficients that no kind gives");
         let [even, odd] = ADDRESSES.map(|address| source::process(&self.stages[address as usize], self.counters, block, address));
         let same = even.answer == odd.answer && even.halves == odd.halves && even.counters == odd.counters;
         assert!(same, "the source's arms disagree: {:?} {:X?}, {} bytes", self.format, self.recipe, block.sound.len());
@@ -175,22 +170,21 @@ impl Chain {
     }
 
     /// What each stage delivers at a finish, over buffers at even and odd addresses, which must agree.
-    fn delivered_at_end(&self) -> Vec<Vec<u8>> {
-        assert!(self.comparable, "a finish for coefficients that no kind gives");
-        let [even, odd] = ADDRESSES.map(|address| ending::delivered(&self.stages[address as usize], self.format, address));
-        assert!(even == odd, "the source's arms disagree at the end: {:?} {:X?}", self.format, self.recipe);
+    fn end(&self) -> End {
+        let [even, odd] = ADDRESSES.map(|address| ending::end(&self.stages[address as usize], self.format, address));
+        assert!(even.delivered == odd.delivered, "the source's arms disagree at the end: {:?} {:X?}", self.format, self.recipe);
         even
     }
 
     /// The bytes of each of the smallest equal halves that a finish accepts.
     pub fn room_at_end(&self) -> usize {
-        self.delivered_at_end().iter().map(Vec::len).max().unwrap_or(0)
+        self.end().delivered.iter().map(Vec::len).max().unwrap_or(0)
     }
 
     /// Room for what each stage delivers, in chain order; then the front of each stage's half is written and the stream is over.
     pub fn finish(&mut self, halves: [&[u8]; 2]) -> Answer {
         let shorter = halves[0].len().min(halves[1].len());
-        let delivered = self.delivered_at_end();
+        let End { delivered, clipped } = self.end();
         let short = delivered.iter().map(Vec::len).find(|length| *length > shorter);
         let mut answer = Answer { halves: halves.map(<[u8]>::to_vec), counters: self.counters, ..Answer::default() };
         if let Some(length) = short {
@@ -203,6 +197,7 @@ impl Chain {
             (output.half, output.bytes) = (half as u8, bytes);
         }
         answer.sound = (!output.bytes.is_empty()).then_some(output);
+        answer.clipped = clipped;
         self.reset();
         answer
     }
@@ -233,7 +228,8 @@ impl Chain {
     }
 }
 
-pub fn mix(a: &[u8], b: &[u8], out: &mut Vec<u8>) -> (u16, u64) {
+/// Number and needed, and how many sums were held back.
+pub fn mix(a: &[u8], b: &[u8], out: &mut Vec<u8>) -> ((u16, u64), u64) {
     let answers = ADDRESSES.map(|address| {
         let (a, b, mut room) = (Buffer::new(&[a], address), Buffer::new(&[b], address), Buffer::new(&[out], address));
         let refused = mix_i16(a.get(), b.get(), room.get_mut()).err().map_or((0, 0), refusal);
@@ -242,7 +238,12 @@ pub fn mix(a: &[u8], b: &[u8], out: &mut Vec<u8>) -> (u16, u64) {
     assert!(answers[Address::Even as usize] == answers[Address::Odd as usize], "the source's arms of mix_i16 disagree");
     let [(refused, after), _] = answers;
     *out = after;
-    refused
+    if refused != (0, 0) {
+        return (refused, 0);
+    }
+    let (sums, clipped) = clipping::mixed(a, b);
+    assert!(out.starts_with(&sums), "the second reading of mix_i16 gives other samples");
+    (refused, clipped)
 }
 
 pub fn max_output_frames(rates: [u32; 2], frames: u64) -> Result<u64, u16> {

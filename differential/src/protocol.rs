@@ -45,13 +45,13 @@ pub const COMMANDS: [Command; 15] = [
         "block",
         "u32 rate, u16 channels, u64 timestamp, bytes sound, bytes half a, bytes half b",
         "u16 number, u64 needed, u8 outcome, u32 rate, u16 channels, u64 timestamp, u8 half, u32 length, \
-         bytes output, bytes half a, bytes half b, u64 blocks, u64 empty_blocks",
+         bytes output, bytes half a, bytes half b, u64 blocks, u64 empty_blocks, u64 clipped",
     ),
     command(RESET, "reset", "", "u64 blocks, u64 empty_blocks"),
     command(WRITE_RECIPE, "write recipe", "bytes room", "u16 number, u64 needed, u32 length, bytes room"),
     command(SCRATCH_BYTES, "scratch_bytes", "u64 length", "u16 number, u64 value"),
     command(OUTPUT_FORMAT, "output format", "", "u32 rate, u16 channels"),
-    command(MIX, "mix_i16", "bytes a, bytes b, bytes out", "u16 number, u64 needed, bytes out"),
+    command(MIX, "mix_i16", "bytes a, bytes b, bytes out", "u16 number, u64 needed, bytes out, u64 clipped"),
     command(MAX_OUTPUT_FRAMES, "max_output_frames", "u32 input rate, u32 output rate, u64 frames", "u16 number, u64 value"),
     command(POLE, "pole", "f32 corner, u32 rate", "u16 number, f32 pole"),
     command(
@@ -62,14 +62,14 @@ pub const COMMANDS: [Command; 15] = [
     ),
     command(FROM_Q15, "from_q15", "i32 q15", "i32 q15"),
     command(LINEAR, "linear", "f32 factor", "i32 q15"),
-    command(ROUND_SAT16, "round_sat16", "f32 float", "i16 sample"),
-    command(SAT16, "sat16", "i32 number", "i16 sample"),
+    command(ROUND_SAT16, "round_sat16", "f32 float", "i16 sample, u8 clipped"),
+    command(SAT16, "sat16", "i32 number", "i16 sample, u8 clipped"),
     command(
         FINISH,
         "finish",
         "bytes half a, bytes half b",
         "u16 number, u64 needed, u8 outcome, u32 rate, u16 channels, u8 half, u32 length, \
-         bytes output, bytes half a, bytes half b, u64 blocks, u64 empty_blocks",
+         bytes output, bytes half a, bytes half b, u64 blocks, u64 empty_blocks, u64 clipped",
     ),
 ];
 

@@ -1,5 +1,6 @@
 //! A script under way: calls are appended with what they must answer, then `replay` runs it and everything is compared.
 
+use crate::clipping::held_back;
 use crate::model::{self, Answer, Chain, Given};
 use crate::protocol::*;
 use crate::recipe::{Designs, Recipe};
@@ -8,8 +9,10 @@ use crate::source::{Block, Format, Sound};
 use oracle::elements::{BiquadKind, Gain};
 use std::collections::BTreeMap;
 use std::io::{Read, Write};
+use std::mem::take;
 use std::path::{Path, PathBuf};
 use std::process::{Command as Process, Stdio};
+use std::thread::JoinHandle;
 
 /// A script of about this length is run before the next chain is opened.
 const SCRIPT_LENGTH: usize = 6 << 20;
@@ -21,8 +24,18 @@ pub struct Tally {
     pub bytes: u64,
 }
 
+/// A script, what it must answer, and where each call starts in both.
+pub struct Gathered {
+    pub family: &'static str,
+    pub script: Vec<u8>,
+    pub answers: Vec<u8>,
+    pub calls: Vec<[usize; 2]>,
+}
+
 pub struct Session {
     replay: Option<PathBuf>,
+    /// The script that `replay` runs while the next one is gathered; gives all that was written.
+    running: Option<JoinHandle<(Gathered, Vec<u8>)>>,
     pub family: &'static str,
     pub designs: Designs,
     pub chain: Chain,
@@ -33,6 +46,8 @@ pub struct Session {
     pub tally: Tally,
     /// How many answers of each command had each number and outcome.
     pub reached: BTreeMap<(u8, u16, u8), u64>,
+    /// How many samples the answers of each command and outcome say were held back.
+    pub clipped: BTreeMap<(u8, u8), u64>,
 }
 
 fn first_chain() -> Chain {
@@ -60,6 +75,7 @@ impl Session {
     pub fn new(replay: Option<PathBuf>) -> Self {
         Session {
             replay,
+            running: None,
             family: "",
             designs: Designs::new(),
             chain: first_chain(),
@@ -68,24 +84,39 @@ impl Session {
             calls: vec![],
             tally: Tally::default(),
             reached: BTreeMap::new(),
+            clipped: BTreeMap::new(),
         }
     }
 
-    /// Runs what has been gathered, and begins a new script with the first chain.
+    /// Has what was gathered run, and begins a new script with the first chain.
     pub fn run(&mut self) {
-        let Some(replay) = &self.replay else { return };
-        if !self.script.is_empty() {
-            let found = answered(replay, &self.script);
-            if found != self.answers {
-                report::difference(self, &found);
-            }
-            self.tally.answers += self.calls.len() as u64;
-            self.tally.bytes += found.len() as u64;
-        }
-        self.script.clear();
-        self.answers.clear();
-        self.calls.clear();
+        let Some(replay) = self.replay.clone() else { return };
         self.chain = first_chain();
+        if self.script.is_empty() {
+            return;
+        }
+        let gathered = Gathered {
+            family: self.family,
+            script: take(&mut self.script),
+            answers: take(&mut self.answers),
+            calls: take(&mut self.calls),
+        };
+        self.settle();
+        self.running = Some(std::thread::spawn(move || {
+            let found = answered(&replay, &gathered.script);
+            (gathered, found)
+        }));
+    }
+
+    /// Waits for the script that runs, if there is one, and compares.
+    pub fn settle(&mut self) {
+        let Some(running) = self.running.take() else { return };
+        let (gathered, found) = running.join().expect("replay did not run");
+        if found != gathered.answers {
+            report::difference(&gathered, &found, &self.tally);
+        }
+        self.tally.answers += gathered.calls.len() as u64;
+        self.tally.bytes += found.len() as u64;
     }
 
     /// Runs a long script; for families whose calls do not depend on the chain in use.
@@ -110,6 +141,12 @@ impl Session {
 
     fn reach(&mut self, command: u8, number: u16, outcome: u8) {
         *self.reached.entry((command, number, outcome)).or_default() += 1;
+    }
+
+    /// The count that ends an answer.
+    fn clipped(&mut self, command: u8, outcome: u8, clipped: u64) {
+        *self.clipped.entry((command, outcome)).or_default() += clipped;
+        self.answers.put(clipped.to_le_bytes());
     }
 
     /// The number opens most answers.
@@ -186,6 +223,7 @@ impl Session {
         out.put_bytes(&sound.bytes);
         answer.halves.iter().for_each(|half| out.put_bytes(half));
         answer.counters.iter().for_each(|counter| out.put(counter.to_le_bytes()));
+        self.clipped(command, answer.outcome(), answer.clipped);
     }
 
     pub fn reset(&mut self) {
@@ -230,10 +268,11 @@ impl Session {
     pub fn mix(&mut self, a: &[u8], b: &[u8], mut out: Vec<u8>) {
         self.begin(MIX);
         [a, b, &out].iter().for_each(|bytes| self.script.put_bytes(bytes));
-        let (number, needed) = model::mix(a, b, &mut out);
+        let ((number, needed), clipped) = model::mix(a, b, &mut out);
         self.number(number);
         self.answers.put(needed.to_le_bytes());
         self.answers.put_bytes(&out);
+        self.clipped(MIX, 0, clipped);
     }
 
     pub fn max_output_frames(&mut self, rates: [u32; 2], frames: u64) {
@@ -284,11 +323,18 @@ impl Session {
         self.small(LINEAR, factor.to_bits().to_le_bytes(), Gain::linear(factor).q15().to_le_bytes());
     }
 
+    /// A sample, and whether the value that gave it was held back.
+    fn rounded(&mut self, command: u8, field: [u8; 4], sample: i16, value: f64) {
+        let ([low, high], clipped) = (sample.to_le_bytes(), held_back(value));
+        *self.clipped.entry((command, 0)).or_default() += u64::from(clipped);
+        self.small(command, field, [low, high, u8::from(clipped)]);
+    }
+
     pub fn round_sat16(&mut self, float: f32) {
-        self.small(ROUND_SAT16, float.to_bits().to_le_bytes(), oracle::round_sat16(float).to_le_bytes());
+        self.rounded(ROUND_SAT16, float.to_bits().to_le_bytes(), oracle::round_sat16(float), float.into());
     }
 
     pub fn sat16(&mut self, number: i32) {
-        self.small(SAT16, number.to_le_bytes(), oracle::sat16(number).to_le_bytes());
+        self.rounded(SAT16, number.to_le_bytes(), oracle::sat16(number), number.into());
     }
 }

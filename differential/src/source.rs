@@ -1,22 +1,64 @@
 //! The unchanged Rust, run on one call: stages that can be cloned, and buffers at even and at odd addresses.
 
+use crate::clipping::{Beside, Reading};
 use crate::ending::Resampler;
-use oracle::elements::{Biquad, DcBlock, Gain, MonoToStereo, StereoToMono};
+use oracle::elements::{Biquad, BiquadKind, DcBlock, Gain, MonoToStereo, StereoToMono};
 use oracle::esp_core::error::{Error, Result};
 use oracle::esp_core::pcm::{PcmBlock, PcmFormat, SampleFormat};
 use oracle::pipeline::{Element, Pipeline};
 
 #[derive(Clone)]
 pub enum Stage {
-    Gain(Gain),
+    Gain(Beside<Gain>),
     MonoToStereo(MonoToStereo),
     StereoToMono(StereoToMono),
     Resample(Resampler),
-    DcBlock(DcBlock),
-    Biquad(Biquad),
+    DcBlock(Beside<DcBlock>),
+    Biquad(Beside<Biquad>),
+    /// A biquad of coefficients that no kind gives, which the Rust cannot make.
+    Undesigned(Reading),
 }
 
 impl Stage {
+    pub fn gain(q15: i32) -> Self {
+        Stage::Gain(Beside::new(Gain::from_q15(q15), Reading::gain(q15)))
+    }
+
+    pub fn dc_block(corner: f32) -> Self {
+        Stage::DcBlock(Beside::new(DcBlock::with_corner(corner), Reading::dc_block(corner)))
+    }
+
+    /// A biquad by its coefficients, and by the kind that gives them, if there is one.
+    pub fn biquad(coefficients: [f32; 5], kind: Option<BiquadKind>) -> Self {
+        let reading = Reading::biquad(coefficients);
+        match kind {
+            Some(kind) => Stage::Biquad(Beside::new(Biquad::new(kind), reading)),
+            None => Stage::Undesigned(reading),
+        }
+    }
+
+    /// Without a second reading where the Rust has the stage.
+    pub fn unread(mut self) -> Self {
+        match &mut self {
+            Stage::Gain(stage) => stage.drop_reading(),
+            Stage::DcBlock(stage) => stage.drop_reading(),
+            Stage::Biquad(stage) => stage.drop_reading(),
+            Stage::MonoToStereo(_) | Stage::StereoToMono(_) | Stage::Resample(_) | Stage::Undesigned(_) => (),
+        }
+        self
+    }
+
+    /// How many samples were held back since this was last asked.
+    fn take_clipped(&mut self) -> u64 {
+        match self {
+            Stage::Gain(stage) => stage.take_clipped(),
+            Stage::DcBlock(stage) => stage.take_clipped(),
+            Stage::Biquad(stage) => stage.take_clipped(),
+            Stage::Undesigned(reading) => reading.take_clipped(),
+            Stage::MonoToStereo(_) | Stage::StereoToMono(_) | Stage::Resample(_) => 0,
+        }
+    }
+
     pub fn element(&mut self) -> &mut dyn Element {
         match self {
             Stage::Gain(stage) => stage,
@@ -25,8 +67,14 @@ impl Stage {
             Stage::Resample(stage) => stage,
             Stage::DcBlock(stage) => stage,
             Stage::Biquad(stage) => stage,
+            Stage::Undesigned(stage) => stage,
         }
     }
+}
+
+/// The sum over the stages of the samples held back in the call that they just ran.
+pub fn take_clipped(stages: &mut [Stage]) -> u64 {
+    stages.iter_mut().map(Stage::take_clipped).sum()
 }
 
 /// A rate and a channel count of 16-bit samples.
@@ -128,11 +176,12 @@ pub struct Sound {
     pub bytes: Vec<u8>,
 }
 
-/// What the Rust answered to a block, the halves and counters after it, and the stages.
+/// What the Rust answered to a block, the halves and counters after it, the samples held back, and the stages.
 pub struct Ran {
     pub answer: Result<Option<Sound>>,
     pub halves: [Vec<u8>; 2],
     pub counters: [u64; 2],
+    pub clipped: u64,
     pub stages: Vec<Stage>,
 }
 
@@ -164,9 +213,10 @@ pub fn process(stages: &[Stage], counters: [u64; 2], block: Block, address: Addr
         }));
         (sound, [pipeline.blocks, pipeline.empty_blocks])
     });
+    let clipped = take_clipped(&mut stages);
     let (a, b) = buffer.get().split_at(half);
     let after = |written: &[u8], lent: &[u8]| [written, &lent[half..]].concat();
-    Ran { answer, halves: [after(a, block.halves[0]), after(b, block.halves[1])], counters, stages }
+    Ran { answer, halves: [after(a, block.halves[0]), after(b, block.halves[1])], counters, clipped, stages }
 }
 
 pub fn reset(stages: &mut [Stage]) {

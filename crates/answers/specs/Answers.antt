@@ -25,9 +25,10 @@ lastHalf (suc n) = cond (eqb (n % 2) 0) half.A half.B
 abbrev pub countedUp : ℕ → ℕ
 countedUp n = cond (ltb n 18446744073709551615) (n + 1) n
 
--- 'nothing yet' where no bytes come out; else the format, half and length of the output; the timestamp is copied through
-abbrev pub outputAnswer : PcmFormat → ℕ → Half → ℕ → Answer
-outputAnswer format timestamp side len = cond (eqb len 0) answer.NothingYet (answer.Output format timestamp side len)
+-- 'nothing yet' where no bytes come out; else the format, half and length of the output; the timestamp is copied through. Either way how many
+-- samples the stages held back (document 02, Q-2)
+abbrev pub outputAnswer : PcmFormat → ℕ → Half → ℕ → ℕ → Answer
+outputAnswer format timestamp side len clipped = cond (eqb len 0) (answer.NothingYet clipped) (answer.Output format timestamp side len clipped)
 
 abbrev pub shorterOf : ℕ → ℕ → ℕ
 shorterOf a b = cond (leb a b) a b
@@ -45,19 +46,20 @@ abbrev pub halfNumber : Half → ℕ
 halfNumber half.A = 0
 halfNumber half.B = 1
 
--- ---- a block: number, needed and outcome (0 refused, 1 sound, 2 nothing yet), then format, timestamp, half and length of the sound, zero where there is none
-abbrev pub soundTold : PcmFormat → ℕ → Half → ℕ → Told
-soundTold f timestamp side len =
-    record { number = 0; needed = 0; outcome = 1; rate = f .rate; channels = f .channels; timestamp = timestamp; half = halfNumber side; len = len }
+-- ---- a block: number, needed and outcome (0 refused, 1 sound, 2 nothing yet), then format, timestamp, half and length of the sound, zero where there is none,
+-- and how many samples were held back, 0 where the block is refused
+abbrev pub soundTold : PcmFormat → ℕ → Half → ℕ → ℕ → Told
+soundTold f timestamp side len clipped =
+    record { number = 0; needed = 0; outcome = 1; rate = f .rate; channels = f .channels; timestamp = timestamp; half = halfNumber side; len = len; clipped = clipped }
 
-abbrev pub silentTold : ℕ → ℕ → ℕ → Told
-silentTold number needed outcome =
-    record { number = number; needed = needed; outcome = outcome; rate = 0; channels = 0; timestamp = 0; half = 0; len = 0 }
+abbrev pub silentTold : ℕ → ℕ → ℕ → ℕ → Told
+silentTold number needed outcome clipped =
+    record { number = number; needed = needed; outcome = outcome; rate = 0; channels = 0; timestamp = 0; half = 0; len = 0; clipped = clipped }
 
 abbrev pub answerTold : Answer → Told
-answerTold (answer.Output f timestamp side len) = soundTold f timestamp side len
-answerTold answer.NothingYet = silentTold 0 0 2
-answerTold (answer.Refused e) = silentTold (refusal e .number) (refusal e .needed) 0
+answerTold (answer.Output f timestamp side len clipped) = soundTold f timestamp side len clipped
+answerTold (answer.NothingYet clipped) = silentTold 0 0 2 clipped
+answerTold (answer.Refused e) = silentTold (refusal e .number) (refusal e .needed) 0 0
 
 -- ---- scratch_bytes: number and value
 abbrev pub scratchTold : Scratch → Valued

@@ -24,18 +24,23 @@ impl Half {
     }
 }
 
+// `clipped` is how many samples the stages held back (document 02, Q-2).
 pub enum Answer {
     Output {
         format: PcmFormat,
         timestamp: u64,
         half: Half,
         len: usize,
+        clipped: usize,
     },
-    NothingYet,
+    NothingYet {
+        clipped: usize,
+    },
     Refused(Error),
 }
 
-// Document 01's number and values of an answer. Outcome: 0 refused, 1 sound, 2 nothing yet; what follows it is zero but for sound.
+// Number and values of an answer. Outcome: 0 refused, 1 sound, 2 nothing yet; what follows it is zero but for sound, and `clipped` but for
+// a refusal.
 #[repr(C)]
 pub struct Told {
     pub number: u16,
@@ -46,11 +51,12 @@ pub struct Told {
     pub timestamp: u64,
     pub half: u8,
     pub len: usize,
+    pub clipped: usize,
 }
 
 // What is told where there is no sound.
-fn silent(number: u16, needed: usize, outcome: u8) -> Told
-    ensures { λ r. ⌜ r ≡ silentTold number needed outcome ⌝ }
+fn silent(number: u16, needed: usize, outcome: u8, clipped: usize) -> Told
+    ensures { λ r. ⌜ r ≡ silentTold number needed outcome clipped ⌝ }
 {
     Told {
         number,
@@ -61,6 +67,7 @@ fn silent(number: u16, needed: usize, outcome: u8) -> Told
         timestamp: 0,
         half: 0,
         len: 0,
+        clipped,
     }
 }
 
@@ -75,6 +82,7 @@ impl Answer {
                 timestamp,
                 half,
                 len,
+                clipped,
             } => Told {
                 number: 0,
                 needed: 0,
@@ -84,9 +92,10 @@ impl Answer {
                 timestamp,
                 half: half.number(),
                 len,
+                clipped,
             },
-            Answer::NothingYet => silent(0, 0, 2),
-            Answer::Refused(e) => silent(e.number(), e.needed(), 0),
+            Answer::NothingYet { clipped } => silent(0, 0, 2, clipped),
+            Answer::Refused(e) => silent(e.number(), e.needed(), 0, 0),
         }
     }
 }
@@ -97,12 +106,15 @@ pub enum FinishAnswer {
         format: PcmFormat,
         half: Half,
         len: usize,
+        clipped: usize,
     },
-    NothingYet,
+    NothingYet {
+        clipped: usize,
+    },
     Refused(Error),
 }
 
-// Document 02's number and values of it. Outcome: 0 refused, 1 sound, 2 nothing yet; what follows it is zero but for sound.
+// Number and values of it, as of a block.
 #[repr(C)]
 pub struct FinishTold {
     pub number: u16,
@@ -112,11 +124,12 @@ pub struct FinishTold {
     pub channels: u16,
     pub half: u8,
     pub len: usize,
+    pub clipped: usize,
 }
 
 // What is told of a finish where there is no sound.
-fn silent_finish(number: u16, needed: usize, outcome: u8) -> FinishTold
-    ensures { λ r. ⌜ r ≡ silentFinishTold number needed outcome ⌝ }
+fn silent_finish(number: u16, needed: usize, outcome: u8, clipped: usize) -> FinishTold
+    ensures { λ r. ⌜ r ≡ silentFinishTold number needed outcome clipped ⌝ }
 {
     FinishTold {
         number,
@@ -126,6 +139,7 @@ fn silent_finish(number: u16, needed: usize, outcome: u8) -> FinishTold
         channels: 0,
         half: 0,
         len: 0,
+        clipped,
     }
 }
 
@@ -135,7 +149,12 @@ impl FinishAnswer {
         ensures { λ r. ⌜ r ≡ finishTold self ⌝ }
     {
         match self {
-            FinishAnswer::Output { format, half, len } => FinishTold {
+            FinishAnswer::Output {
+                format,
+                half,
+                len,
+                clipped,
+            } => FinishTold {
                 number: 0,
                 needed: 0,
                 outcome: 1,
@@ -143,9 +162,10 @@ impl FinishAnswer {
                 channels: format.channels,
                 half: half.number(),
                 len,
+                clipped,
             },
-            FinishAnswer::NothingYet => silent_finish(0, 0, 2),
-            FinishAnswer::Refused(e) => silent_finish(e.number(), e.needed(), 0),
+            FinishAnswer::NothingYet { clipped } => silent_finish(0, 0, 2, clipped),
+            FinishAnswer::Refused(e) => silent_finish(e.number(), e.needed(), 0, 0),
         }
     }
 }
@@ -211,12 +231,18 @@ fn last_half(count: usize) -> Half
     }
 }
 
-// The answer of an accepted block of which so many bytes came out.
-pub fn answered(format: PcmFormat, timestamp: u64, count: usize, len: usize) -> Answer
-    ensures { λ r. ⌜ r ≡ outputAnswer format timestamp (lastHalf count) len ⌝ }
+// The answer of an accepted block of which so many bytes came out and so many samples were held back.
+pub fn answered(
+    format: PcmFormat,
+    timestamp: u64,
+    count: usize,
+    len: usize,
+    clipped: usize,
+) -> Answer
+    ensures { λ r. ⌜ r ≡ outputAnswer format timestamp (lastHalf count) len clipped ⌝ }
 {
     if len == 0 {
-        return Answer::NothingYet;
+        return Answer::NothingYet { clipped };
     }
     let half = last_half(count);
     Answer::Output {
@@ -224,18 +250,24 @@ pub fn answered(format: PcmFormat, timestamp: u64, count: usize, len: usize) -> 
         timestamp,
         half,
         len,
+        clipped,
     }
 }
 
-// The answer of an accepted finish of which so many bytes came out.
-pub fn finish_answered(format: PcmFormat, count: usize, len: usize) -> FinishAnswer
-    ensures { λ r. ⌜ r ≡ finishAnswer format (lastHalf count) len ⌝ }
+// The same of a finish.
+pub fn finish_answered(format: PcmFormat, count: usize, len: usize, clipped: usize) -> FinishAnswer
+    ensures { λ r. ⌜ r ≡ finishAnswer format (lastHalf count) len clipped ⌝ }
 {
     if len == 0 {
-        return FinishAnswer::NothingYet;
+        return FinishAnswer::NothingYet { clipped };
     }
     let half = last_half(count);
-    FinishAnswer::Output { format, half, len }
+    FinishAnswer::Output {
+        format,
+        half,
+        len,
+        clipped,
+    }
 }
 
 pub fn shorter_of(a: usize, b: usize) -> usize

@@ -5,6 +5,7 @@ ghost use Rattle.cookbook.specs.Cookbook.{identity};
 ghost use Rattle.biquad.specs.Recurrence.{recurrence, biquadTick, patterns, floats};
 use cookbook::Coefficients;
 use filters::FilterMemory;
+use filters::Filtered;
 
 // The coefficients' bits, as they came.
 pub struct CoefficientBits {
@@ -64,16 +65,16 @@ impl Biquad {
         }
     }
 
-    // Filters the whole frames of `input` into the front of `out`; the memory goes in and comes back.
+    // Filters the whole frames of `input` into the front of `out`; the memory goes in and comes back, beside how many samples were held back.
     pub fn process(
         self,
         input: &[u8],
         out: &mut [u8],
         channels: usize,
         memory: FilterMemory,
-    ) -> FilterMemory
+    ) -> Filtered
         requires { ⌜ FilterBlock channels (now input) (now out) ⌝ }
-        ensures { λ m. ⌜ FilteredBlock (biquadTick (self .coefficients)) channels memory (now (input .entry)) (now (out .entry)) (now (out .exit)) m ⌝ }
+        ensures { λ a. ⌜ FilteredBlock (biquadTick (self .coefficients)) channels memory (now (input .entry)) (now (out .entry)) (now (out .exit)) a ⌝ }
     {
         if channels == 1 {
             mono(input, out, self.coefficients, memory)
@@ -90,9 +91,9 @@ fn output(k: Coefficients, x: f32, x1: f32, x2: f32, y1: f32, y2: f32) -> f32
     k.b0 * x + k.b1 * x1 + k.b2 * x2 - k.a1 * y1 - k.a2 * y2
 }
 
-fn mono(input: &[u8], out: &mut [u8], k: Coefficients, memory: FilterMemory) -> FilterMemory
+fn mono(input: &[u8], out: &mut [u8], k: Coefficients, memory: FilterMemory) -> Filtered
     requires { ⌜ FilterBlock 1 (now input) (now out) ⌝ }
-    ensures { λ m. ⌜ FilteredBlock (biquadTick k) 1 memory (now (input .entry)) (now (out .entry)) (now (out .exit)) m ⌝ }
+    ensures { λ a. ⌜ FilteredBlock (biquadTick k) 1 memory (now (input .entry)) (now (out .entry)) (now (out .exit)) a ⌝ }
 {
     let mut x1 = memory.x1[0];
     let mut x2 = memory.x2[0];
@@ -100,6 +101,7 @@ fn mono(input: &[u8], out: &mut [u8], k: Coefficients, memory: FilterMemory) -> 
     let mut y2 = memory.y2[0];
     let n = input.len();
     let mut i = 0;
+    let mut c: usize = 0;
     while i < n {
         let x = pcm::get_i16(input, i) as f32;
         let y = output(k, x, x1, x2, y1, y2);
@@ -107,20 +109,22 @@ fn mono(input: &[u8], out: &mut [u8], k: Coefficients, memory: FilterMemory) -> 
         x1 = x;
         y2 = y1;
         y1 = y;
-        pcm::put_i16(out, i, floats::round_sat16(y));
+        pcm::put_i16(out, i, floats::rounded16(y));
+        c += counting::one(floats::clipped(y));
         i += 2;
     }
-    FilterMemory {
+    let memory = FilterMemory {
         x1: [x1, memory.x1[1]],
         x2: [x2, memory.x2[1]],
         y1: [y1, memory.y1[1]],
         y2: [y2, memory.y2[1]],
-    }
+    };
+    Filtered { memory, clipped: c }
 }
 
-fn stereo(input: &[u8], out: &mut [u8], k: Coefficients, memory: FilterMemory) -> FilterMemory
+fn stereo(input: &[u8], out: &mut [u8], k: Coefficients, memory: FilterMemory) -> Filtered
     requires { ⌜ FilterBlock 2 (now input) (now out) ⌝ }
-    ensures { λ m. ⌜ FilteredBlock (biquadTick k) 2 memory (now (input .entry)) (now (out .entry)) (now (out .exit)) m ⌝ }
+    ensures { λ a. ⌜ FilteredBlock (biquadTick k) 2 memory (now (input .entry)) (now (out .entry)) (now (out .exit)) a ⌝ }
 {
     let mut lx1 = memory.x1[0];
     let mut lx2 = memory.x2[0];
@@ -132,6 +136,7 @@ fn stereo(input: &[u8], out: &mut [u8], k: Coefficients, memory: FilterMemory) -
     let mut ry2 = memory.y2[1];
     let n = input.len();
     let mut i = 0;
+    let mut c: usize = 0;
     while i < n {
         let lx = pcm::get_i16(input, i) as f32;
         let rx = pcm::get_i16(input, i + 2) as f32;
@@ -145,14 +150,16 @@ fn stereo(input: &[u8], out: &mut [u8], k: Coefficients, memory: FilterMemory) -
         rx1 = rx;
         ry2 = ry1;
         ry1 = ry;
-        pcm::put_i16(out, i, floats::round_sat16(ly));
-        pcm::put_i16(out, i + 2, floats::round_sat16(ry));
+        pcm::put_i16(out, i, floats::rounded16(ly));
+        pcm::put_i16(out, i + 2, floats::rounded16(ry));
+        c += counting::one(floats::clipped(ly)) + counting::one(floats::clipped(ry));
         i += 4;
     }
-    FilterMemory {
+    let memory = FilterMemory {
         x1: [lx1, rx1],
         x2: [lx2, rx2],
         y1: [ly1, ry1],
         y2: [ly2, ry2],
-    }
+    };
+    Filtered { memory, clipped: c }
 }

@@ -15,7 +15,7 @@ use Rattle.pipeline.specs.WritingBack.{stagesOf}
 use Rattle.turns.specs.Turns.{halves}
 use Rattle.answers.specs.declared.Answer.the-variants as answer
 use Rattle.answers.specs.declared.Scratch.{Scratch}
-use Rattle.block.specs.BlockCall.{Result, sizeAsked, blockVerdict, shorter, outputBytes, accepted, concluded, blockCall, scratchAnswer, scratchFigure, scratchBytes}
+use Rattle.block.specs.BlockCall.{Result, sizeAsked, blockVerdict, shorter, outputBytes, blockClipped, accepted, concluded, blockCall, scratchAnswer, scratchFigure, scratchBytes}
 use Rattle.answers.specs.Answers.{lastHalf, soundTold, silentTold, answerTold, scratchTold}
 use Rattle.block.specs.Told.{toldOfBlock, blockTold}
 
@@ -26,11 +26,14 @@ module _ (c : Pipeline) (format : PcmFormat) (t : ℕ) (block a b : List ℕ) wh
   abbrev len : ℕ
   len = outputBytes c block
 
-  nothing-or-sound : (none : Bool) → answerTold (cond none answer.NothingYet (answer.Output leaving t (lastHalf (c .count)) len)) ≡ cond none (silentTold 0 0 2) (soundTold leaving t (lastHalf (c .count)) len)
+  abbrev held : ℕ
+  held = blockClipped c block
+
+  nothing-or-sound : (none : Bool) → answerTold (cond none (answer.NothingYet held) (answer.Output leaving t (lastHalf (c .count)) len held)) ≡ cond none (silentTold 0 0 2 held) (soundTold leaving t (lastHalf (c .count)) len held)
   nothing-or-sound true = refl
   nothing-or-sound false = refl
 
-  told-by : (v : Verdict) → answerTold (concluded v c t block (halves a b) .answer) ≡ toldOfBlock v leaving t (lastHalf (c .count)) len
+  told-by : (v : Verdict) → answerTold (concluded v c t block (halves a b) .answer) ≡ toldOfBlock v leaving t (lastHalf (c .count)) len held
   unfolding accepted
   told-by Accepted = nothing-or-sound (eqb len 0)
   told-by (Refused e) = refl

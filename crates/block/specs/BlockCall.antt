@@ -1,4 +1,4 @@
--- The block call (document 01, pipeline.rs and 'The questions'): from a chain and a call to all that is there afterwards. Definitions only.
+-- The block call (document 01, pipeline.rs and 'The questions'; document 02, Q-2): from a chain and a call to all that is there afterwards. Definitions only.
 use mathlib.Core.Bool.{Bool, true, cond, _&&_}
 use mathlib.Core.List.{List, [], _∷_, _++_}
 use Prim.Native.Nat.{ℕ, suc, _*_, _/_, _%_}
@@ -20,7 +20,7 @@ use Rattle.answers.specs.declared.Answer.{Answer}
 use Rattle.answers.specs.declared.Answer.the-variants as answer
 use Rattle.answers.specs.declared.Scratch.{Scratch}
 use Rattle.answers.specs.declared.Scratch.the-variants as scratch
-use Rattle.block.specs.Chain.{chainOut, chainNext}
+use Rattle.block.specs.Chain.{chainOut, chainNext, chainClipped}
 use Rattle.pipeline.specs.Reset.{formatLeaving}
 use Rattle.questions.specs.Walk.{wholeFrames, sameFormat, larger}
 use Rattle.turns.specs.Turns.{Halves}
@@ -100,10 +100,14 @@ countedChain c stages len = record {
 abbrev pub outputBytes : Pipeline → List ℕ → ℕ
 outputBytes c bytes = length (bytesOf (chainOut (stagesOf c) (framesOf (c .format .channels) bytes)))
 
+-- how many samples its stages hold back
+abbrev pub blockClipped : Pipeline → List ℕ → ℕ
+blockClipped c bytes = chainClipped (stagesOf c) (framesOf (c .format .channels) bytes)
+
 unfoldable pub accepted : Pipeline → ℕ → List ℕ → Halves → Result
 accepted c timestamp bytes h = record {
   chain = countedChain c (chainNext (stagesOf c) (framesOf (c .format .channels) bytes) ++ drop (c .count) (c .stages)) (outputBytes c bytes);
-  answer = outputAnswer (formatLeaving (c .format) (stagesOf c)) timestamp (lastHalf (c .count)) (outputBytes c bytes);
+  answer = outputAnswer (formatLeaving (c .format) (stagesOf c)) timestamp (lastHalf (c .count)) (outputBytes c bytes) (blockClipped c bytes);
   a = halvesAfter (stagesOf c) (framesOf (c .format .channels) bytes) bytes h .a;
   b = halvesAfter (stagesOf c) (framesOf (c .format .channels) bytes) bytes h .b;
 }

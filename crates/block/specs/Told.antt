@@ -13,14 +13,14 @@ use Rattle.pipeline.specs.Reset.{formatLeaving}
 use Rattle.pipeline.specs.WritingBack.{stagesOf}
 use Rattle.answers.specs.declared.Half.{Half}
 use Rattle.answers.specs.declared.Told.{Told}
-use Rattle.block.specs.BlockCall.{shorter, blockVerdict, outputBytes}
+use Rattle.block.specs.BlockCall.{shorter, blockVerdict, outputBytes, blockClipped}
 use Rattle.answers.specs.Answers.{lastHalf, soundTold, silentTold}
 
--- by the verdict, where `len` bytes of this format come out
-abbrev pub toldOfBlock : Verdict → PcmFormat → ℕ → Half → ℕ → Told
-toldOfBlock Accepted f timestamp side len = cond (eqb len 0) (silentTold 0 0 2) (soundTold f timestamp side len)
-toldOfBlock (Refused e) f timestamp side len = silentTold (refusal e .number) (refusal e .needed) 0
+-- by the verdict, where `len` bytes of this format come out and so many samples are held back
+abbrev pub toldOfBlock : Verdict → PcmFormat → ℕ → Half → ℕ → ℕ → Told
+toldOfBlock Accepted f timestamp side len clipped = cond (eqb len 0) (silentTold 0 0 2 clipped) (soundTold f timestamp side len clipped)
+toldOfBlock (Refused e) f timestamp side len clipped = silentTold (refusal e .number) (refusal e .needed) 0 0
 
 abbrev pub blockTold : Pipeline → PcmFormat → ℕ → List ℕ → List ℕ → List ℕ → Told
 blockTold c format timestamp bytes a b =
-    toldOfBlock (blockVerdict c format (length bytes) (shorter a b)) (formatLeaving (c .format) (stagesOf c)) timestamp (lastHalf (c .count)) (outputBytes c bytes)
+    toldOfBlock (blockVerdict c format (length bytes) (shorter a b)) (formatLeaving (c .format) (stagesOf c)) timestamp (lastHalf (c .count)) (outputBytes c bytes) (blockClipped c bytes)

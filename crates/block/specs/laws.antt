@@ -2,6 +2,7 @@ pub mod Asking
 pub mod Beforehand
 pub mod Bounds
 pub mod Chain
+pub mod Clips
 pub mod Concluding
 pub mod Counts
 pub mod Reaching

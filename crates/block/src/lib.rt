@@ -63,6 +63,7 @@ pub fn process(
     answers::copy_unstaged(count, block, a);
     let mut reaching = own;
     let mut len = size;
+    let mut clipped: usize = 0;
     i = 0;
     while i < count {
         let s = chain.stages[i];
@@ -73,6 +74,7 @@ pub fn process(
             chain.stages[i] = Stage { kind, memory };
         }
         len = t.len;
+        clipped += t.clipped;
         reaching = stage::format_after(reaching, kind);
         i = answers::next_stage(i, count, len);
     }
@@ -80,7 +82,7 @@ pub fn process(
     chain.blocks = blocks;
     let empty_blocks = answers::count_empty(chain.empty_blocks, len);
     chain.empty_blocks = empty_blocks;
-    let answer = answers::answered(reaching, timestamp, count, len);
+    let answer = answers::answered(reaching, timestamp, count, len, clipped);
     Outcome { chain, answer }
 }
 

@@ -38,8 +38,9 @@ fn told(
             timestamp: _,
             half: _,
             len,
+            clipped: _,
         } => line(label, 0, len),
-        Answer::NothingYet => nothing_yet(label),
+        Answer::NothingYet { clipped: _ } => nothing_yet(label),
         Answer::Refused(e) => line(label, e.number(), e.needed()),
     }
     done.chain
@@ -65,11 +66,12 @@ fn ended(label: &[u8], chain: Pipeline, a: &mut [u8], b: &mut [u8]) -> Pipeline 
             format: _,
             half,
             len,
+            clipped: _,
         } => {
             line(label, 0, len);
             last_sample(answers::output(a, b, half, len));
         }
-        FinishAnswer::NothingYet => nothing_yet(label),
+        FinishAnswer::NothingYet { clipped: _ } => nothing_yet(label),
         FinishAnswer::Refused(e) => line(label, e.number(), e.needed()),
     }
     done.chain

@@ -1,2 +1,3 @@
 mod Channels
+mod Counts
 mod Sums

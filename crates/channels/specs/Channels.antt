@@ -9,9 +9,13 @@ use Rattle.pcm.specs.declared.Verdict.{Verdict}
 use Rattle.pcm.specs.declared.Verdict.the-variants.{Accepted, Refused}
 use Rattle.pcm.specs.declared.Error.the-variants.{InvalidGeometry}
 use Rattle.pcm.specs.Integers.{floorDiv}
-use Rattle.pcm.specs.Refusals.{ask, roomVerdict}
-use Rattle.pcm.specs.Samples.{held16, decode, encode}
+use Rattle.pcm.specs.Refusals.{ask, refusal, roomVerdict}
+use Rattle.pcm.specs.Samples.{held16, outside16, decode, encode}
 use Rattle.pcm.specs.Frames.{Frame, framesOf, bytesOf, written}
+use Rattle.counting.specs.Counting.{countOf}
+use Rattle.channels.specs.declared.MixAnswer.{MixAnswer}
+use Rattle.channels.specs.declared.MixAnswer.the-variants as answer
+use Rattle.channels.specs.declared.MixTold.{MixTold}
 
 -- mono to stereo doubles each sample
 abbrev pub doubled : Frame → Frame
@@ -42,6 +46,15 @@ mixedSamples [] ys = []
 mixedSamples (x ∷ xs) [] = []
 mixedSamples (x ∷ xs) (y ∷ ys) = mixed x y ∷ mixedSamples xs ys
 
+-- how many of the sums are held back (document 02, Q-2): those outside the sample range
+abbrev pub sums : List ℤ → List ℤ → List ℤ
+sums [] ys = []
+sums (x ∷ xs) [] = []
+sums (x ∷ xs) (y ∷ ys) = (x +ℤ y) ∷ sums xs ys
+
+unfoldable pub mixClipped : List ℤ → List ℤ → ℕ
+mixClipped xs ys = countOf outside16 (sums xs ys)
+
 unfoldable pub mixedBytes : List ℕ → List ℕ → List ℕ
 mixedBytes a b = encode (mixedSamples (decode a) (decode b))
 
@@ -49,7 +62,24 @@ mixedBytes a b = encode (mixedSamples (decode a) (decode b))
 unfoldable pub mixVerdict : List ℕ → List ℕ → List ℕ → Verdict
 mixVerdict a b out = ask (eqb (length a) (length b) && eqb (length a % 2) 0) InvalidGeometry (roomVerdict (length a) (length out))
 
+-- the answer where the questions come to a verdict: an accepted mix tells how many sums were held back
+abbrev pub answerOfMixing : Verdict → ℕ → MixAnswer
+answerOfMixing Accepted clipped = answer.Mixed clipped
+answerOfMixing (Refused e) clipped = answer.Refused e
+
+unfoldable pub mixAnswer : List ℕ → List ℕ → List ℕ → MixAnswer
+mixAnswer a b out = answerOfMixing (mixVerdict a b out) (mixClipped (decode a) (decode b))
+
 -- the buffer afterwards: bytes past those written stay, and a refusal alters nothing
-abbrev pub afterMix : Verdict → List ℕ → List ℕ → List ℕ → List ℕ
-afterMix Accepted a b out = written (mixedBytes a b) out
-afterMix (Refused e) a b out = out
+abbrev pub afterMix : MixAnswer → List ℕ → List ℕ → List ℕ → List ℕ
+afterMix (answer.Mixed clipped) a b out = written (mixedBytes a b) out
+afterMix (answer.Refused e) a b out = out
+
+-- ---- the paper's number, needed and count: of each case, and of a call whose questions came to a verdict
+abbrev pub mixTold : MixAnswer → MixTold
+mixTold (answer.Mixed clipped) = record { number = 0; needed = 0; clipped = clipped }
+mixTold (answer.Refused e) = record { number = refusal e .number; needed = refusal e .needed; clipped = 0 }
+
+abbrev pub toldOfMixing : Verdict → ℕ → MixTold
+toldOfMixing Accepted clipped = record { number = 0; needed = 0; clipped = clipped }
+toldOfMixing (Refused e) clipped = record { number = refusal e .number; needed = refusal e .needed; clipped = 0 }

@@ -8,6 +8,7 @@ ghost use Rattle.pcm.specs.Formats.{rateAllowed};
 ghost use Rattle.filters.specs.Filters.{FilterBlock, FilteredBlock};
 ghost use Rattle.dc_block.specs.DcBlock.{blocked, dcTick, poleOf, poleVerdict, poleAnswer, poleTold, poleValued, untuned};
 use filters::FilterMemory;
+use filters::Filtered;
 use pcm::Error;
 
 // 2π as a binary32.
@@ -87,16 +88,16 @@ impl DcBlock {
         }
     }
 
-    // Filters the whole frames of `input` into the front of `out`; the memory goes in and comes back.
+    // Filters the whole frames of `input` into the front of `out`; the memory goes in and comes back, beside how many samples were held back.
     pub fn process(
         self,
         input: &[u8],
         out: &mut [u8],
         channels: usize,
         memory: FilterMemory,
-    ) -> FilterMemory
+    ) -> Filtered
         requires { ⌜ FilterBlock channels (now input) (now out) ⌝ }
-        ensures { λ m. ⌜ FilteredBlock (dcTick (self .r)) channels memory (now (input .entry)) (now (out .entry)) (now (out .exit)) m ⌝ }
+        ensures { λ a. ⌜ FilteredBlock (dcTick (self .r)) channels memory (now (input .entry)) (now (out .entry)) (now (out .exit)) a ⌝ }
     {
         if channels == 1 {
             mono(input, out, self.r, memory)
@@ -121,34 +122,37 @@ fn output(r: f32, x: f32, x1: f32, y1: f32) -> f32
     (x - x1) + r * y1
 }
 
-fn mono(input: &[u8], out: &mut [u8], r: f32, memory: FilterMemory) -> FilterMemory
+fn mono(input: &[u8], out: &mut [u8], r: f32, memory: FilterMemory) -> Filtered
     requires { ⌜ FilterBlock 1 (now input) (now out) ⌝ }
-    ensures { λ m. ⌜ FilteredBlock (dcTick r) 1 memory (now (input .entry)) (now (out .entry)) (now (out .exit)) m ⌝ }
+    ensures { λ a. ⌜ FilteredBlock (dcTick r) 1 memory (now (input .entry)) (now (out .entry)) (now (out .exit)) a ⌝ }
 {
     let mut x1 = memory.x1[0];
     let mut y1 = memory.y1[0];
     let n = input.len();
     let mut i = 0;
+    let mut c: usize = 0;
     while i < n {
         let x = pcm::get_i16(input, i) as f32;
         y1 = output(r, x, x1, y1);
         x1 = x;
-        pcm::put_i16(out, i, floats::round_sat16(y1));
+        pcm::put_i16(out, i, floats::rounded16(y1));
+        c += counting::one(floats::clipped(y1));
         i += 2;
     }
     let x2 = memory.x2;
     let y2 = memory.y2;
-    FilterMemory {
+    let memory = FilterMemory {
         x1: [x1, memory.x1[1]],
         x2,
         y1: [y1, memory.y1[1]],
         y2,
-    }
+    };
+    Filtered { memory, clipped: c }
 }
 
-fn stereo(input: &[u8], out: &mut [u8], r: f32, memory: FilterMemory) -> FilterMemory
+fn stereo(input: &[u8], out: &mut [u8], r: f32, memory: FilterMemory) -> Filtered
     requires { ⌜ FilterBlock 2 (now input) (now out) ⌝ }
-    ensures { λ m. ⌜ FilteredBlock (dcTick r) 2 memory (now (input .entry)) (now (out .entry)) (now (out .exit)) m ⌝ }
+    ensures { λ a. ⌜ FilteredBlock (dcTick r) 2 memory (now (input .entry)) (now (out .entry)) (now (out .exit)) a ⌝ }
 {
     let mut lx1 = memory.x1[0];
     let mut ly1 = memory.y1[0];
@@ -156,6 +160,7 @@ fn stereo(input: &[u8], out: &mut [u8], r: f32, memory: FilterMemory) -> FilterM
     let mut ry1 = memory.y1[1];
     let n = input.len();
     let mut i = 0;
+    let mut c: usize = 0;
     while i < n {
         let lx = pcm::get_i16(input, i) as f32;
         let rx = pcm::get_i16(input, i + 2) as f32;
@@ -163,16 +168,18 @@ fn stereo(input: &[u8], out: &mut [u8], r: f32, memory: FilterMemory) -> FilterM
         ry1 = output(r, rx, rx1, ry1);
         lx1 = lx;
         rx1 = rx;
-        pcm::put_i16(out, i, floats::round_sat16(ly1));
-        pcm::put_i16(out, i + 2, floats::round_sat16(ry1));
+        pcm::put_i16(out, i, floats::rounded16(ly1));
+        pcm::put_i16(out, i + 2, floats::rounded16(ry1));
+        c += counting::one(floats::clipped(ly1)) + counting::one(floats::clipped(ry1));
         i += 4;
     }
     let x2 = memory.x2;
     let y2 = memory.y2;
-    FilterMemory {
+    let memory = FilterMemory {
         x1: [lx1, rx1],
         x2,
         y1: [ly1, ry1],
         y2,
-    }
+    };
+    Filtered { memory, clipped: c }
 }

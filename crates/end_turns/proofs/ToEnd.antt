@@ -15,8 +15,8 @@ use Rattle.stage.specs.declared.Stage.{Stage}
 use Rattle.stage.specs.declared.StageKind.{StageKind}
 use Rattle.stage.specs.declared.StageKind.the-variants as kind
 use Rattle.stage.specs.declared.SoundMemory.{SoundMemory}
-use Rattle.stage.specs.Stages.{stageOut, stageNext, formatAfter}
-use Rattle.stage.specs.laws.Stages.{stage-out-nil, stage-next-nil}
+use Rattle.stage.specs.Stages.{stageOut, stageNext, formatAfter, stageClipped}
+use Rattle.stage.specs.laws.Stages.{stage-out-nil, stage-next-nil, stage-clipped-nil}
 use Rattle.stage.specs.Rooms.{framesOut, Served}
 use Rattle.stage.specs.laws.Rooms.{stage-count}
 use Rattle.turns.specs.Turns.{Makes}
@@ -33,16 +33,19 @@ unfolding bytesOf
 bytes-none = refl
 
 -- nothing arrives
-pub nothing-arrives : (f : PcmFormat) (s : Stage) (src dst : List ℕ) → length src ≡ 0 → Makes f s (s .memory) 0 src dst dst
+pub nothing-arrives : (f : PcmFormat) (s : Stage) (src dst : List ℕ) → length src ≡ 0 → Makes f s (s .memory) 0 0 src dst dst
 nothing-arrives f s src dst e =
     let x : framesOf (f .channels) src ≡ [] = ap (framesOf (f .channels)) (no-bytes src e) ∙ frames-nil (f .channels) in
     let b : bytesOf (stageOut s []) ≡ [] = ap bytesOf (stage-out-nil s) ∙ bytes-none in
-    rw x (record {
-      keeps = sym (stage-next-nil s);
-      size = sym (ap length b);
-      gives = sym (ap (λ (l : List ℕ). written l dst) b ∙ written-nil dst);
-      frames = λ a. subst (FramesOf (formatAfter f (s .kind) .channels)) (sym (stage-out-nil s)) tt;
-    })
+    record {
+      serves = rw x (record {
+        keeps = sym (stage-next-nil s);
+        size = sym (ap length b);
+        gives = sym (ap (λ (l : List ℕ). written l dst) b ∙ written-nil dst);
+        frames = λ a. subst (FramesOf (formatAfter f (s .kind) .channels)) (sym (stage-out-nil s)) tt;
+      });
+      holds = sym (ap (stageClipped s) x ∙ stage-clipped-nil s);
+    }
 
 -- the last frame, where there is one, has the channels that arrive
 module _ (f : PcmFormat) (m : SoundMemory) where
@@ -93,21 +96,21 @@ module _ (f : PcmFormat) (s : Stage) (src dst : List ℕ) (w : ServedToEnd f s s
   }
 
   -- then the last frame, from `len` on
-  module _ (m : SoundMemory) (len : ℕ) (mid : List ℕ) (v : Makes f s m len src dst mid) (a : FramesOf (f .channels) xs) where
+  module _ (m : SoundMemory) (len clipped : ℕ) (mid : List ℕ) (v : Makes f s m len clipped src dst mid) (a : FramesOf (f .channels) xs) where
     abbrev last : List Frame
     last = lastOf (f .channels) (s .kind) m
 
     len-is : len ≡ length (stageOut s xs) * width
-    len-is = v .size ∙ length-bytes (formatAfter f (s .kind) .channels) (stageOut s xs) (v .frames a)
+    len-is = v .serves .size ∙ length-bytes (formatAfter f (s .kind) .channels) (stageOut s xs) (v .serves .frames a)
 
     last-is : last ≡ rest
-    last-is = ap (λ (t : Stage). lastOf (f .channels) (s .kind) (t .memory)) (v .keeps)
+    last-is = ap (λ (t : Stage). lastOf (f .channels) (s .kind) (t .memory)) (v .serves .keeps)
 
     both-fit : len + length last * width ≤ length dst
     both-fit = omega (arith, len-is, all-fits, ap (λ (k : ℕ). k * width) parts, ap (λ (l : List Frame). length l * width) last-is)
 
     still-long : length mid ≡ length dst
-    still-long = ap length (v .gives) ∙ length-written (bytesOf (stageOut s xs)) dst (omega (arith, v .size, both-fit))
+    still-long = ap length (v .serves .gives) ∙ length-written (bytesOf (stageOut s xs)) dst (omega (arith, v .serves .size, both-fit))
 
     pub within : len ≤ length mid
     within = omega (arith, both-fit, still-long)
@@ -126,15 +129,16 @@ module _ (f : PcmFormat) (s : Stage) (src dst : List ℕ) (w : ServedToEnd f s s
       unfolding stageEnd
       ended-bytes = sym (bytes-append (stageOut s xs) last) ∙ ap (λ (l : List Frame). bytesOf (stageOut s xs ++ l)) last-is
 
-      pub serves-to-end : ServesToEnd f s xs (len + n) dst (putMid len (length mid - len) mid out)
+      pub serves-to-end : ServesToEnd f s xs (len + n) clipped dst (putMid len (length mid - len) mid out)
       unfolding stageEnd
       serves-to-end = record {
         fronted = record {
-          size = ap₂ (λ (x y : ℕ). x + y) (v .size) (k .size) ∙ sym (length-append (bytesOf (stageOut s xs)) (bytesOf last)) ∙ ap length ended-bytes;
+          size = ap₂ (λ (x y : ℕ). x + y) (v .serves .size) (k .size) ∙ sym (length-append (bytesOf (stageOut s xs)) (bytesOf last)) ∙ ap length ended-bytes;
           bytes-are =
-              written-part (bytesOf (stageOut s xs)) (bytesOf last) dst mid out len (v .size) (v .gives) (k .bytes-are)
+              written-part (bytesOf (stageOut s xs)) (bytesOf last) dst mid out len (v .serves .size) (v .serves .gives) (k .bytes-are)
               ∙ ap (λ (l : List ℕ). written l dst) ended-bytes;
         };
-        frames = λ b. all-append (FrameOf (formatAfter f (s .kind) .channels)) (stageOut s xs) rest (v .frames b)
+        frames = λ b. all-append (FrameOf (formatAfter f (s .kind) .channels)) (stageOut s xs) rest (v .serves .frames b)
             (subst (FramesOf (formatAfter f (s .kind) .channels)) last-is rest-frames);
+        holds = v .holds;
       }

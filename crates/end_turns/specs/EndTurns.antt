@@ -7,7 +7,7 @@ use lib.ListN.{length}
 use Rattle.pcm.specs.declared.PcmFormat.{PcmFormat}
 use Rattle.pcm.specs.Frames.{Frame, FramesOf, bytesOf, written}
 use Rattle.stage.specs.declared.Stage.{Stage}
-use Rattle.stage.specs.Stages.{formatAfter}
+use Rattle.stage.specs.Stages.{stageClipped, formatAfter}
 use Rattle.stage.specs.Rooms.{stageSuits}
 use Rattle.ending.specs.StageEnd.{stageEnd, framesAtEnd}
 
@@ -23,7 +23,8 @@ pub record ServedToEnd (f : PcmFormat) (s : Stage) (source target : List ℕ) : 
   pub whole : length source % (f .channels * 2) ≡ 0
   pub room : framesAtEnd (s .kind) (s .memory) (length source / (f .channels * 2)) * (formatAfter f (s .kind) .channels * 2) ≤ length target
 
--- what a stage that takes the frames xs and ends delivers to the front of its half
-pub record ServesToEnd (f : PcmFormat) (s : Stage) (xs : List Frame) (len : ℕ) (before after : List ℕ) : Type 0 where
+-- what a stage that takes the frames xs and ends delivers to the front of its half, and holds back
+pub record ServesToEnd (f : PcmFormat) (s : Stage) (xs : List Frame) (len clipped : ℕ) (before after : List ℕ) : Type 0 where
   pub fronted : Fronted (stageEnd (f .channels) s xs) before after len
   pub frames : FramesOf (f .channels) xs → FramesOf (formatAfter f (s .kind) .channels) (stageEnd (f .channels) s xs)
+  pub holds : clipped ≡ stageClipped s xs

@@ -19,7 +19,7 @@ use turns::Applied;
 // halves; it has no caller but that loop, of which it then becomes a part.
 fn taken(format: PcmFormat, s: Stage, input: &[u8], out: &mut [u8]) -> Applied
     requires { ⌜ Takes format s (now input) (now out) ⌝ }
-    ensures { λ r. ⌜ Makes format s (r .memory) (r .len) (now (input .entry)) (now (out .entry)) (now (out .exit)) ⌝ }
+    ensures { λ r. ⌜ Makes format s (r .memory) (r .len) (r .clipped) (now (input .entry)) (now (out .entry)) (now (out .exit)) ⌝ }
 {
     let kind = s.kind;
     let memory = s.memory;
@@ -29,36 +29,59 @@ fn taken(format: PcmFormat, s: Stage, input: &[u8], out: &mut [u8]) -> Applied
     let len = input.len();
     match kind {
         StageKind::Gain(g) => {
-            g.process(input, out);
-            Applied { memory, len }
+            let clipped = g.process(input, out);
+            Applied {
+                memory,
+                len,
+                clipped,
+            }
         }
         StageKind::MonoToStereo => {
             channels::mono_to_stereo(input, out);
-            let len = len * 2;
-            Applied { memory, len }
+            Applied {
+                memory,
+                len: len * 2,
+                clipped: 0,
+            }
         }
         StageKind::StereoToMono => {
             channels::stereo_to_mono(input, out);
-            let len = len / 2;
-            Applied { memory, len }
+            Applied {
+                memory,
+                len: len / 2,
+                clipped: 0,
+            }
         }
         StageKind::Resample(r) => {
             let held = stage::held_samples(resampler);
             let t = resample::process(r, held, channels, input, out);
             let resampler = t.state;
             let memory = SoundMemory { filter, resampler };
-            let len = t.frames * (channels * 2);
-            Applied { memory, len }
+            Applied {
+                memory,
+                len: t.frames * (channels * 2),
+                clipped: 0,
+            }
         }
         StageKind::DcBlock(d) => {
-            let filter = d.process(input, out, channels, filter);
+            let t = d.process(input, out, channels, filter);
+            let filter = t.memory;
             let memory = SoundMemory { filter, resampler };
-            Applied { memory, len }
+            Applied {
+                memory,
+                len,
+                clipped: t.clipped,
+            }
         }
         StageKind::Biquad(f) => {
-            let filter = f.process(input, out, channels, filter);
+            let t = f.process(input, out, channels, filter);
+            let filter = t.memory;
             let memory = SoundMemory { filter, resampler };
-            Applied { memory, len }
+            Applied {
+                memory,
+                len,
+                clipped: t.clipped,
+            }
         }
     }
 }
@@ -66,11 +89,15 @@ fn taken(format: PcmFormat, s: Stage, input: &[u8], out: &mut [u8]) -> Applied
 // The same, where nothing may arrive.
 fn arrived(format: PcmFormat, s: Stage, input: &[u8], out: &mut [u8]) -> Applied
     requires { ⌜ ServedToEnd format s (now input) (now out) ⌝ }
-    ensures { λ r. ⌜ Makes format s (r .memory) (r .len) (now (input .entry)) (now (out .entry)) (now (out .exit)) ⌝ }
+    ensures { λ r. ⌜ Makes format s (r .memory) (r .len) (r .clipped) (now (input .entry)) (now (out .entry)) (now (out .exit)) ⌝ }
 {
     if input.len() == 0 {
         let memory = s.memory;
-        return Applied { memory, len: 0 };
+        return Applied {
+            memory,
+            len: 0,
+            clipped: 0,
+        };
     }
     taken(format, s, input, out)
 }
@@ -127,15 +154,25 @@ fn put_last(channels: usize, kind: StageKind, memory: SoundMemory, out: &mut [u8
     }
 }
 
-// The turn of a stage that ends: what it makes of `input`, which may be empty, then its last frame, stand at the front of `out`. How
-// many bytes that is.
-pub fn end_turn(format: PcmFormat, s: Stage, input: &[u8], out: &mut [u8]) -> usize
+// How many bytes a stage that ends delivers, and how many samples it held back.
+pub struct EndApplied {
+    pub len: usize,
+    pub clipped: usize,
+}
+
+// The turn of a stage that ends: what it makes of `input`, which may be empty, then its last frame, stand at the front of `out`. A last
+// frame is as it arrived: nothing of it is held back.
+pub fn end_turn(format: PcmFormat, s: Stage, input: &[u8], out: &mut [u8]) -> EndApplied
     requires { ⌜ ServedToEnd format s (now input) (now out) ⌝ }
-    ensures { λ r. ⌜ ServesToEnd format s (framesOf (format .channels) (now (input .entry))) r (now (out .entry)) (now (out .exit)) ⌝ }
+    ensures { λ r. ⌜ ServesToEnd format s (framesOf (format .channels) (now (input .entry))) (r .len) (r .clipped) (now (out .entry)) (now (out .exit)) ⌝ }
 {
     let t = arrived(format, s, input, out);
     let kind = s.kind;
     let memory = t.memory;
     let len = t.len;
-    len + put_last(format.channels as usize, kind, memory, &mut out[len..])
+    let last = put_last(format.channels as usize, kind, memory, &mut out[len..]);
+    EndApplied {
+        len: len + last,
+        clipped: t.clipped,
+    }
 }

@@ -2,14 +2,16 @@
 -- after a sample. Definitions only.
 use mathlib.Core.Path.{_≡_}
 use mathlib.Core.List.{List, [], _∷_, map}
-use Prim.Native.Nat.{ℕ, _*_, _%_, _≤_, _<_}
+use Prim.Native.Nat.{ℕ, _+_, _*_, _%_, _≤_, _<_}
 use lib.IntN.{ℤ}
 use lib.ListN.{length}
 use lib.Ieee.{Float}
 use Rattle.filters.specs.declared.FilterMemory.{FilterMemory}
+use Rattle.filters.specs.declared.Filtered.{Filtered}
 use Rattle.floats.specs.Operations.{plusZero}
-use Rattle.floats.specs.Rounding.{rounded16}
+use Rattle.floats.specs.Rounding.{rounded16, clipped}
 use Rattle.pcm.specs.Frames.{Frame, framesOf, bytesOf, written}
+use Rattle.counting.specs.Counting.{one}
 
 -- one channel's two earlier inputs and two earlier outputs
 pub record Taps : Type 0 where
@@ -57,10 +59,19 @@ module _ (tick : Taps → ℤ → Taps) where
   frameOut ts [] = []
   frameOut ts (x ∷ f) = rounded16 (tick (first atRest ts) x .y1) ∷ frameOut (others ts) f
 
-  -- what a filter makes of frames, and the taps afterwards
+  -- how many of them it holds back (document 02, Q-2)
+  abbrev pub frameClipped : List Taps → Frame → ℕ
+  frameClipped ts [] = 0
+  frameClipped ts (x ∷ f) = one (clipped (tick (first atRest ts) x .y1)) + frameClipped (others ts) f
+
+  -- what a filter makes of frames, how many samples it holds back, and the taps afterwards
   abbrev pub filtered : List Taps → List Frame → List Frame
   filtered ts [] = []
   filtered ts (f ∷ fs) = frameOut ts f ∷ filtered (frameNext ts f) fs
+
+  abbrev pub filterClipped : List Taps → List Frame → ℕ
+  filterClipped ts [] = 0
+  filterClipped ts (f ∷ fs) = frameClipped ts f + filterClipped (frameNext ts f) fs
 
   abbrev pub filterNext : List Taps → List Frame → List Taps
   filterNext ts [] = ts
@@ -79,7 +90,8 @@ pub record FilterBlock (channels : ℕ) (input out : List ℕ) : Type 0 where
   pub whole : length input % (channels * 2) ≡ 0
   pub room : length input ≤ length out
 
--- what it gives: the output at the buffer's front, the rest of the buffer as it was, and the memory afterwards
-pub record FilteredBlock (tick : Taps → ℤ → Taps) (channels : ℕ) (m : FilterMemory) (input out out′ : List ℕ) (m′ : FilterMemory) : Type 0 where
+-- what it gives: the output at the buffer's front, the rest of the buffer as it was, the memory afterwards, and how many samples were held back
+pub record FilteredBlock (tick : Taps → ℤ → Taps) (channels : ℕ) (m : FilterMemory) (input out out′ : List ℕ) (r : Filtered) : Type 0 where
   pub bytes : out′ ≡ written (bytesOf (filtered tick (tapsOf m) (framesOf channels input))) out
-  pub memory : m′ ≡ memoryNext tick m (framesOf channels input)
+  pub memory : r .memory ≡ memoryNext tick m (framesOf channels input)
+  pub clipped : r .clipped ≡ filterClipped tick (tapsOf m) (framesOf channels input)

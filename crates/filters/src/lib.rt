@@ -10,6 +10,12 @@ pub struct FilterMemory {
     pub y2: [f32; 2],
 }
 
+// What a filter answers of a block: its memory afterwards, and how many samples it held back.
+pub struct Filtered {
+    pub memory: FilterMemory,
+    pub clipped: usize,
+}
+
 impl FilterMemory {
     // Each channel starts at +0.
     pub fn new() -> FilterMemory

@@ -2,7 +2,7 @@
 use mathlib.Core.Path.{_≡_, refl, sym, ap, ap₂, _∙_, subst}
 use mathlib.Core.Bool.{true}
 use mathlib.Core.List.{List, [], _∷_}
-use Prim.Native.Nat.{ℕ, _+_, _-_, _*_, _/_, _%_, _≤_, _<_}
+use Prim.Native.Nat.{ℕ, _+_, _*_, _/_, _%_, _≤_, _<_}
 use native.Mathlib.Nat.{mul-div-cancel, mul-mod-left, zero-mul}
 use native.Mathlib.Decide.{decLt}
 use native.Mathlib.Numerals.{add-one}
@@ -14,24 +14,25 @@ use Rattle.pcm.specs.declared.Verdict.the-variants.{Accepted}
 use Rattle.pcm.specs.Frames.{Frame, FramesOf, framesOf, bytesOf}
 use Rattle.pcm.specs.laws.Frames.{length-bytes, frames-bytes, frames-nil, front-written}
 use Rattle.stage.specs.declared.Stage.{Stage}
-use Rattle.stage.specs.Stages.{formatAfter}
+use Rattle.stage.specs.Stages.{stageClipped, formatAfter}
 use Rattle.stage.specs.Rooms.{stageSuits}
-use Rattle.stage.specs.laws.Rooms.{channels-after}
+use Rattle.stage.specs.laws.Rooms.{channels-after, suits-bounded}
 use Rattle.ending.specs.StageEnd.{stageEnd, framesAtEnd}
 use Rattle.end_turns.specs.EndTurns.{ServedToEnd, ServesToEnd}
-use Rattle.ending.specs.laws.StageEnd.{stage-end-count}
+use Rattle.ending.specs.laws.StageEnd.{stage-end-count, end-wanted-holds}
 use Rattle.pipeline.specs.declared.Pipeline.{Pipeline}
 use Rattle.turns.specs.Turns.{Halves, targetAt}
 use Rattle.block.specs.BlockCall.{put, suited, shorter}
 use Rattle.block.specs.laws.Steps.{stage-at, stages-end, drop-zero}
 use Rattle.block.specs.laws.Reaching.{Sized, put-sized, target-long}
 use Rattle.block.specs.laws.Bounds.{suited-first, suited-rest, legal-parts}
-use Rattle.finish.specs.FinishCall.{chainEnd, roomAtEnd, endVerdict, endedHalves}
+use Rattle.block.specs.laws.Clips.{Clips, clips-first, clips-fit, clips-next}
+use Rattle.finish.specs.FinishCall.{chainEnd, endClipped, roomAtEnd, endVerdict, endedHalves}
 use Rattle.finish.specs.Turns.{sourceFor, EndTurn, Finishes}
 use Rattle.finish.specs.laws.Stepping.{end-first, end-rest}
 
--- before stage i + 1, which takes xs: `format` and `before` are the call's format and halves
-pub record EndReached (stages : List Stage) (count : ℕ) (format : PcmFormat) (before : Halves) (short : ℕ) (f : PcmFormat) (n i : ℕ) (h : Halves) : Type 0 where
+-- before stage i + 1, which takes xs: `format` and `before` are the call's format and halves, and so many samples were held back
+pub record EndReached (stages : List Stage) (count : ℕ) (format : PcmFormat) (before : Halves) (short : ℕ) (f : PcmFormat) (n i : ℕ) (h : Halves) (clipped : ℕ) : Type 0 where
   pub xs : List Frame
   pub good : FramesOf (f .channels) xs
   pub channels : (0 < f .channels) × (f .channels ≤ 2)
@@ -43,6 +44,7 @@ pub record EndReached (stages : List Stage) (count : ℕ) (format : PcmFormat) (
   pub room : endVerdict f (drop i (take count stages)) (length xs) short ≡ Accepted
   pub sides : endedHalves 0 format (take count stages) [] before ≡ endedHalves i f (drop i (take count stages)) xs h
   pub makes : chainEnd format (take count stages) [] ≡ chainEnd f (drop i (take count stages)) xs
+  pub clips : Clips count (endClipped format (take count stages) []) (format .rate) (endClipped f (drop i (take count stages)) xs) f (length xs) i clipped
 
 -- ---- small laws
 module _ (f : PcmFormat) (s : Stage) (rest : List Stage) where
@@ -55,6 +57,10 @@ module _ (f : PcmFormat) (s : Stage) (rest : List Stage) where
   unfolding chainEnd
   chain-end-cons xs = refl
 
+  end-clipped-cons : (xs : List Frame) → endClipped f (s ∷ rest) xs ≡ stageClipped s xs + endClipped (formatAfter f (s .kind)) rest (stageEnd (f .channels) s xs)
+  unfolding endClipped
+  end-clipped-cons xs = refl
+
 ended-none : (i : ℕ) (f : PcmFormat) (xs : List Frame) (h : Halves) → endedHalves i f [] xs h ≡ h
 unfolding endedHalves
 ended-none i f xs h = refl
@@ -62,6 +68,10 @@ ended-none i f xs h = refl
 chain-end-none : (f : PcmFormat) (xs : List Frame) → chainEnd f [] xs ≡ xs
 unfolding chainEnd
 chain-end-none f xs = refl
+
+end-clipped-none : (f : PcmFormat) (xs : List Frame) → endClipped f [] xs ≡ 0
+unfolding endClipped
+end-clipped-none f xs = refl
 
 -- the next source is what was written
 next-source : (i n : ℕ) (out : List ℕ) (h : Halves) → n ≡ length out → sourceFor (i + 1) n (put i out h) ≡ out
@@ -82,26 +92,26 @@ module _ (f : PcmFormat) (s : Stage) (i n : ℕ) (a b : List ℕ) where
   abbrev Asks : Type 0
   Asks = ServedToEnd f s (sourceFor i n (record { a = a; b = b })) (targetAt i (record { a = a; b = b }))
 
-  abbrev Gives : ℕ → List ℕ → List ℕ → Type 0
-  Gives len a′ b′ = EndTurn f s (framesOf (f .channels) (sourceFor i n (record { a = a; b = b }))) i len (record { a = a; b = b }) (record { a = a′; b = b′ })
+  abbrev Gives : ℕ → ℕ → List ℕ → List ℕ → Type 0
+  Gives len clipped a′ b′ = EndTurn f s (framesOf (f .channels) (sourceFor i n (record { a = a; b = b }))) i len clipped (record { a = a; b = b }) (record { a = a′; b = b′ })
 
   pub even-asks : i % 2 ≡ 0 → Asks → ServedToEnd f s (take n b) a
   even-asks e w = rw (eq-eqb (i % 2) 0 e) at w
 
-  pub even-gives : (len : ℕ) (a′ : List ℕ) → i % 2 ≡ 0 → ServesToEnd f s (framesOf (f .channels) (take n b)) len a a′ → Gives len a′ b
-  even-gives len a′ e r =
-      rw (eq-eqb (i % 2) 0 e) (record { size = r .fronted .size; frames = r .frames; gives = rw (eq-eqb (i % 2) 0 e) (ap (λ (l : List ℕ). record { a = l; b = b }) (r .fronted .bytes-are)) })
+  pub even-gives : (len clipped : ℕ) (a′ : List ℕ) → i % 2 ≡ 0 → ServesToEnd f s (framesOf (f .channels) (take n b)) len clipped a a′ → Gives len clipped a′ b
+  even-gives len clipped a′ e r =
+      rw (eq-eqb (i % 2) 0 e) (record { size = r .fronted .size; frames = r .frames; holds = r .holds; gives = rw (eq-eqb (i % 2) 0 e) (ap (λ (l : List ℕ). record { a = l; b = b }) (r .fronted .bytes-are)) })
 
   pub odd-asks : (i % 2 ≡ 0 → ⊥) → Asks → ServedToEnd f s (take n a) b
   odd-asks e w = rw (ne-eqb (i % 2) 0 e) at w
 
-  pub odd-gives : (len : ℕ) (b′ : List ℕ) → (i % 2 ≡ 0 → ⊥) → ServesToEnd f s (framesOf (f .channels) (take n a)) len b b′ → Gives len a b′
-  odd-gives len b′ e r =
-      rw (ne-eqb (i % 2) 0 e) (record { size = r .fronted .size; frames = r .frames; gives = rw (ne-eqb (i % 2) 0 e) (ap (λ (l : List ℕ). record { a = a; b = l }) (r .fronted .bytes-are)) })
+  pub odd-gives : (len clipped : ℕ) (b′ : List ℕ) → (i % 2 ≡ 0 → ⊥) → ServesToEnd f s (framesOf (f .channels) (take n a)) len clipped b b′ → Gives len clipped a b′
+  odd-gives len clipped b′ e r =
+      rw (ne-eqb (i % 2) 0 e) (record { size = r .fronted .size; frames = r .frames; holds = r .holds; gives = rw (ne-eqb (i % 2) 0 e) (ap (λ (l : List ℕ). record { a = a; b = l }) (r .fronted .bytes-are)) })
 
 -- ---- one stage
-module _ (stages : List Stage) (count : ℕ) (format : PcmFormat) (before : Halves) (short : ℕ) (f : PcmFormat) (n i : ℕ) (h : Halves) (d : Stage)
-    (r : EndReached stages count format before short f n i h) (more : i < count) (len : length stages ≡ 8) (top : count ≤ 8)
+module _ (stages : List Stage) (count : ℕ) (format : PcmFormat) (before : Halves) (short : ℕ) (f : PcmFormat) (n i : ℕ) (h : Halves) (clipped : ℕ) (d : Stage)
+    (r : EndReached stages count format before short f n i h clipped) (more : i < count) (len : length stages ≡ 8) (top : count ≤ 8)
     (in-a : short ≤ length (h .a)) (in-b : short ≤ length (h .b)) where
   abbrev s : Stage
   s = getD stages i d
@@ -137,7 +147,11 @@ module _ (stages : List Stage) (count : ℕ) (format : PcmFormat) (before : Halv
   }
 
   -- the stage has had its turn
-  module _ (m : ℕ) (g : PcmFormat) (h′ : Halves) (t : EndTurn f s (framesOf (f .channels) (sourceFor i n h)) i m h h′) (e : g ≡ formatAfter f (s .kind)) where
+  -- the sum of what was held back fits
+  pub sum-fits : {held : ℕ} → held ≡ stageClipped s (framesOf (f .channels) (sourceFor i n h)) → clipped + held ≤ 38400000000000
+  sum-fits q = clips-fit count _ (format .rate) _ f _ i clipped (r .clips) more top s (r .xs) refl (r .good) (r .channels .1) (q ∙ ap (stageClipped s) (r .source))
+
+  module _ (m held : ℕ) (g : PcmFormat) (h′ : Halves) (t : EndTurn f s (framesOf (f .channels) (sourceFor i n h)) i m held h h′) (e : g ≡ formatAfter f (s .kind)) where
     abbrev out : List Frame
     out = stageEnd (f .channels) s (r .xs)
 
@@ -170,7 +184,13 @@ module _ (stages : List Stage) (count : ℕ) (format : PcmFormat) (before : Halv
     pub sized-out : Sized h h′
     sized-out = subst (Sized h) (sym halves-are) (put-sized i (bytesOf out) h (omega (arith, size-is, within-out)) (omega (arith, size-is, within-out)))
 
-    pub next-reached : EndReached stages count format before short g m (i + 1) h′
+    clips-out : Clips count (endClipped format (take count stages) []) (format .rate) (endClipped g rest out) g (length out) (i + 1) (clipped + held)
+    clips-out =
+        clips-next count _ (format .rate) _ f _ i clipped (r .clips) more top s (r .xs) refl (r .good) (r .channels .1) (t .holds ∙ ap (stageClipped s) (r .source))
+        (ap (λ (l : List Stage). endClipped f l (r .xs)) ahead ∙ end-clipped-cons f s rest (r .xs) ∙ ap (λ (k : PcmFormat). stageClipped s (r .xs) + endClipped k rest out) (sym e))
+        suit-here (rw count-out (end-wanted-holds (s .kind) (s .memory) (length (r .xs)) (suits-bounded f (s .kind) (s .memory) suit-here))) e
+
+    pub next-reached : EndReached stages count format before short g m (i + 1) h′ (clipped + held)
     next-reached =
         let src : sourceFor (i + 1) m h′ ≡ bytesOf out = ap (sourceFor (i + 1) m) halves-are ∙ next-source i m (bytesOf out) h size-is in
         record {
@@ -186,23 +206,27 @@ module _ (stages : List Stage) (count : ℕ) (format : PcmFormat) (before : Halv
           sides = r .sides ∙ ap (λ (l : List Stage). endedHalves i f l (r .xs) h) ahead ∙ ended-cons f s rest i (r .xs) h
               ∙ ap₂ (λ (k : PcmFormat) (x : Halves). endedHalves (i + 1) k rest out x) (sym e) (sym halves-are);
           makes = r .makes ∙ ap (λ (l : List Stage). chainEnd f l (r .xs)) ahead ∙ chain-end-cons f s rest (r .xs) ∙ ap (λ (k : PcmFormat). chainEnd k rest out) (sym e);
+          clips = clips-out;
         }
 
 -- ---- past the last stage
-module _ (stages : List Stage) (count : ℕ) (format : PcmFormat) (before : Halves) (short : ℕ) (f : PcmFormat) (n i : ℕ) (h : Halves)
-    (r : EndReached stages count format before short f n i h) (last : count ≤ i) where
+module _ (stages : List Stage) (count : ℕ) (format : PcmFormat) (before : Halves) (short : ℕ) (f : PcmFormat) (n i : ℕ) (h : Halves) (clipped : ℕ)
+    (r : EndReached stages count format before short f n i h clipped) (last : count ≤ i) where
   over : drop i (take count stages) ≡ []
   over = stages-end stages count i last
 
   pub ended-size : n ≡ length (bytesOf (chainEnd format (take count stages) []))
   ended-size = r .size ∙ ap (λ (xs : List Frame). length (bytesOf xs)) (sym (r .makes ∙ ap (λ (l : List Stage). chainEnd f l (r .xs)) over ∙ chain-end-none f (r .xs)))
 
+  pub ended-clipped : clipped ≡ endClipped format (take count stages) []
+  ended-clipped = omega (arith, r .clips .is, ap (λ (l : List Stage). endClipped f l (r .xs)) over, end-clipped-none f (r .xs))
+
   pub ended-halves : h ≡ endedHalves 0 format (take count stages) [] before
   ended-halves = sym (r .sides ∙ ap (λ (l : List Stage). endedHalves i f l (r .xs) h) over ∙ ended-none i f (r .xs) h)
 
 -- ---- before the first stage nothing has arrived
 pub begun : (c : Pipeline) (a b : List ℕ) → Finishes c a b
-    → EndReached (c .stages) (c .count) (c .format) (record { a = a; b = b }) (shorter a b) (c .format) 0 0 (record { a = a; b = b })
+    → EndReached (c .stages) (c .count) (c .format) (record { a = a; b = b }) (shorter a b) (c .format) 0 0 (record { a = a; b = b }) 0
 unfolding bytesOf
 begun c a b w =
     let ok = legal-parts c (w .chain) in
@@ -219,4 +243,5 @@ begun c a b w =
       room = rw whole (w .room);
       sides = rw whole;
       makes = rw whole;
+      clips = rw whole (clips-first (c .count) _ (c .format .rate) (c .format) 0 (ok .rate) refl (omega arith));
     }

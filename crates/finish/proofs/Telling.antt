@@ -15,18 +15,19 @@ use Rattle.answers.specs.declared.FinishAnswer.the-variants as answer
 use Rattle.answers.specs.Answers.{lastHalf}
 use Rattle.answers.specs.FinishAnswers.{soundFinishTold, silentFinishTold, finishTold}
 use Rattle.block.specs.BlockCall.{shorter}
-use Rattle.finish.specs.FinishCall.{FinishResult, finishVerdict, finishBytes, finished, finishConcluded, finishCall}
+use Rattle.finish.specs.FinishCall.{FinishResult, finishVerdict, finishBytes, finishClipped, finished, finishConcluded, finishCall}
 use Rattle.finish.specs.Told.{toldOfFinish, finishCallTold}
 
 module _ (c : Pipeline) (a b : List ℕ) where
   abbrev leaving : PcmFormat
   leaving = formatLeaving (c .format) (stagesOf c)
 
-  nothing-or-sound : (none : Bool) → finishTold (cond none answer.NothingYet (answer.Output leaving (lastHalf (c .count)) (finishBytes c))) ≡ cond none (silentFinishTold 0 0 2) (soundFinishTold leaving (lastHalf (c .count)) (finishBytes c))
+  nothing-or-sound : (none : Bool) → finishTold (cond none (answer.NothingYet (finishClipped c)) (answer.Output leaving (lastHalf (c .count)) (finishBytes c) (finishClipped c)))
+      ≡ cond none (silentFinishTold 0 0 2 (finishClipped c)) (soundFinishTold leaving (lastHalf (c .count)) (finishBytes c) (finishClipped c))
   nothing-or-sound true = refl
   nothing-or-sound false = refl
 
-  told-by : (v : Verdict) → finishTold (finishConcluded v c (halves a b) .answer) ≡ toldOfFinish v leaving (lastHalf (c .count)) (finishBytes c)
+  told-by : (v : Verdict) → finishTold (finishConcluded v c (halves a b) .answer) ≡ toldOfFinish v leaving (lastHalf (c .count)) (finishBytes c) (finishClipped c)
   unfolding finished
   told-by Accepted = nothing-or-sound (eqb (finishBytes c) 0)
   told-by (Refused e) = refl

@@ -1,6 +1,6 @@
--- The finish call (document 02, Q-1): from a chain and two halves to all that is there afterwards. Definitions only.
+-- The finish call (document 02, Q-1 and Q-2): from a chain and two halves to all that is there afterwards. Definitions only.
 use mathlib.Core.List.{List, [], _∷_}
-use Prim.Native.Nat.{ℕ, suc, _*_}
+use Prim.Native.Nat.{ℕ, suc, _+_, _*_}
 use lib.Dec.{leb}
 use lib.ListN.{length}
 use Rattle.pcm.specs.declared.PcmFormat.{PcmFormat}
@@ -10,7 +10,7 @@ use Rattle.pcm.specs.declared.Verdict.the-variants.{Accepted, Refused}
 use Rattle.pcm.specs.Refusals.{ask}
 use Rattle.pcm.specs.Frames.{Frame, bytesOf}
 use Rattle.stage.specs.declared.Stage.{Stage}
-use Rattle.stage.specs.Stages.{formatAfter}
+use Rattle.stage.specs.Stages.{stageClipped, formatAfter}
 use Rattle.pipeline.specs.declared.Pipeline.{Pipeline}
 use Rattle.pipeline.specs.Reset.{resetCall, formatLeaving}
 use Rattle.pipeline.specs.WritingBack.{stagesOf}
@@ -27,6 +27,11 @@ use Rattle.ending.specs.StageEnd.{stageEnd, framesAtEnd}
 unfoldable pub chainEnd : PcmFormat → List Stage → List Frame → List Frame
 chainEnd f [] xs = xs
 chainEnd f (s ∷ rest) xs = chainEnd (formatAfter f (s .kind)) rest (stageEnd (f .channels) s xs)
+
+-- how many samples they hold back: each of those that it takes in this call; a last frame is as it arrived
+unfoldable pub endClipped : PcmFormat → List Stage → List Frame → ℕ
+endClipped f [] xs = 0
+endClipped f (s ∷ rest) xs = stageClipped s xs + endClipped (formatAfter f (s .kind)) rest (stageEnd (f .channels) s xs)
 
 -- ---- the questions
 -- the room a stage wants here is the bytes that it delivers in this call, where n frames arrive
@@ -61,11 +66,15 @@ pub record FinishResult : Type 0 where
 abbrev pub finishBytes : Pipeline → ℕ
 finishBytes c = length (bytesOf (chainEnd (c .format) (stagesOf c) []))
 
+-- and how many samples are held back
+abbrev pub finishClipped : Pipeline → ℕ
+finishClipped c = endClipped (c .format) (stagesOf c) []
+
 -- sound state is cleared as by reset; no counter moves
 unfoldable pub finished : Pipeline → Halves → FinishResult
 finished c h = record {
   chain = resetCall c;
-  answer = finishAnswer (formatLeaving (c .format) (stagesOf c)) (lastHalf (c .count)) (finishBytes c);
+  answer = finishAnswer (formatLeaving (c .format) (stagesOf c)) (lastHalf (c .count)) (finishBytes c) (finishClipped c);
   a = endedHalves 0 (c .format) (stagesOf c) [] h .a;
   b = endedHalves 0 (c .format) (stagesOf c) [] h .b;
 }

@@ -17,8 +17,8 @@ use Rattle.turns.specs.Turns.{Halves, halves}
 use Rattle.block.specs.BlockCall.{legal, suited, shorter}
 use Rattle.block.specs.laws.Bounds.{legal-parts}
 use Rattle.block.specs.laws.Reaching.{bytes-nil}
-use Rattle.finish.specs.FinishCall.{chainEnd, endVerdict, endedHalves, finishVerdict, finished, finishCall}
-use Rattle.finish.specs.laws.ChainEnd.{clear-is-opened, chain-end-opened, end-room-opened, ended-opened}
+use Rattle.finish.specs.FinishCall.{chainEnd, endClipped, endVerdict, endedHalves, finishVerdict, finished, finishCall}
+use Rattle.finish.specs.laws.ChainEnd.{clear-is-opened, chain-end-opened, end-clipped-opened, end-room-opened, ended-opened}
 
 -- of a chain whose stages remember nothing, as after opening, a reset or a finish, a finish is 'nothing yet' and alters nothing: whatever the
 -- halves, empty ones too
@@ -35,6 +35,9 @@ module _ (c : Pipeline) (lawful : legal c ≡ true) (silent : stagesOf c ≡ map
   no-bytes : bytesOf (chainEnd (c .format) (stagesOf c) []) ≡ []
   no-bytes = ap (λ (l : List Stage). bytesOf (chainEnd (c .format) l [])) as-opened ∙ ap bytesOf (chain-end-opened (c .format) (kindsOf (stagesOf c))) ∙ bytes-nil
 
+  none-clipped : endClipped (c .format) (stagesOf c) [] ≡ 0
+  none-clipped = ap (λ (l : List Stage). endClipped (c .format) l []) as-opened ∙ end-clipped-opened (c .format) (kindsOf (stagesOf c))
+
   same-halves : (h : Halves) → endedHalves 0 (c .format) (stagesOf c) [] h ≡ h
   same-halves h = ap (λ (l : List Stage). endedHalves 0 (c .format) l [] h) as-opened ∙ ended-opened 0 (c .format) (kindsOf (stagesOf c)) h
 
@@ -44,6 +47,6 @@ module _ (c : Pipeline) (lawful : legal c ≡ true) (silent : stagesOf c ≡ map
       (ap (λ (l : List Stage). let d : Pipeline = record { stages = l; count = c .count; format = c .format; blocks = c .blocks; «empty_blocks» = c .«empty_blocks» } in d)
       (ap (λ (l : List Stage). l ++ drop (c .count) (c .stages)) (sym silent) ∙ take-append-drop (c .count) (c .stages)))
 
-  pub nothing-due : (a b : List ℕ) → finishCall c a b ≡ record { chain = c; answer = answer.NothingYet; a = a; b = b }
+  pub nothing-due : (a b : List ℕ) → finishCall c a b ≡ record { chain = c; answer = answer.NothingYet 0; a = a; b = b }
   unfolding finishCall finished
-  nothing-due a b = rw (accepted (shorter a b), same-chain, no-bytes, same-halves (halves a b))
+  nothing-due a b = rw (accepted (shorter a b), same-chain, no-bytes, none-clipped, same-halves (halves a b))

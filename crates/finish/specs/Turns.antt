@@ -12,7 +12,7 @@ use Rattle.pcm.specs.declared.Verdict.the-variants.{Accepted}
 use Rattle.pcm.specs.Refusals.{ask}
 use Rattle.pcm.specs.Frames.{Frame, FramesOf, bytesOf}
 use Rattle.stage.specs.declared.Stage.{Stage}
-use Rattle.stage.specs.Stages.{formatAfter}
+use Rattle.stage.specs.Stages.{stageClipped, formatAfter}
 use Rattle.ending.specs.StageEnd.{stageEnd}
 use Rattle.pipeline.specs.declared.Pipeline.{Pipeline}
 use Rattle.pipeline.specs.Reset.{resetCall, formatLeaving}
@@ -22,6 +22,7 @@ use Rattle.block.specs.BlockCall.{put, legal, shorter}
 use Rattle.pipeline.specs.WritingBack.{stagesOf}
 use Rattle.answers.specs.Answers.{lastHalf}
 use Rattle.answers.specs.FinishAnswers.{finishAnswer}
+use Rattle.end_turns.specs.declared.EndApplied.{EndApplied}
 use Rattle.finish.specs.declared.Finished.{Finished}
 use Rattle.finish.specs.FinishCall.{endVerdict}
 
@@ -33,11 +34,12 @@ endFrom w = ask (w .legal) InvalidFormat (ask (eqb (w .short) 0) (BufferTooSmall
 abbrev pub sourceFor : ℕ → ℕ → Halves → List ℕ
 sourceFor i n h = cond (eqb (i % 2) 0) (take n (h .b)) (take n (h .a))
 
--- stage i + 1 has taken xs and ended: so many bytes stand at the front of its half, and no other byte has changed
-pub record EndTurn (f : PcmFormat) (s : Stage) (xs : List Frame) (i len : ℕ) (before after : Halves) : Type 0 where
+-- stage i + 1 has taken xs and ended: so many bytes stand at the front of its half, no other byte has changed, and so many samples were held back
+pub record EndTurn (f : PcmFormat) (s : Stage) (xs : List Frame) (i len clipped : ℕ) (before after : Halves) : Type 0 where
   pub size : len ≡ length (bytesOf (stageEnd (f .channels) s xs))
   pub gives : after ≡ put i (bytesOf (stageEnd (f .channels) s xs)) before
   pub frames : FramesOf (f .channels) xs → FramesOf (formatAfter f (s .kind) .channels) (stageEnd (f .channels) s xs)
+  pub holds : clipped ≡ stageClipped s xs
 
 -- a finish whose questions were all answered yes
 pub record Finishes (c : Pipeline) (a b : List ℕ) : Type 0 where
@@ -45,5 +47,5 @@ pub record Finishes (c : Pipeline) (a b : List ℕ) : Type 0 where
   pub room : endVerdict (c .format) (stagesOf c) 0 (shorter a b) ≡ Accepted
 
 -- the chain cleared, and the answer
-unfoldable pub endedAs : Pipeline → ℕ → Finished
-endedAs c len = record { chain = resetCall c; answer = finishAnswer (formatLeaving (c .format) (stagesOf c)) (lastHalf (c .count)) len }
+unfoldable pub endedAs : Pipeline → EndApplied → Finished
+endedAs c done = record { chain = resetCall c; answer = finishAnswer (formatLeaving (c .format) (stagesOf c)) (lastHalf (c .count)) (done .len) (done .clipped) }

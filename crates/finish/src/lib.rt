@@ -10,10 +10,11 @@ ghost use Rattle.answers.specs.FinishAnswers.{finishTold};
 ghost use Rattle.turns.specs.Turns.{halves, targetAt};
 ghost use Rattle.block.specs.BlockCall.{legal};
 ghost use Rattle.end_turns.specs.EndTurns.{ServedToEnd};
-ghost use Rattle.finish.specs.FinishCall.{finishVerdict, finishBytes, endedHalves, finished, finishCall};
+ghost use Rattle.finish.specs.FinishCall.{finishVerdict, finishBytes, finishClipped, endedHalves, finished, finishCall};
 ghost use Rattle.finish.specs.Told.{finishCallTold};
 ghost use Rattle.finish.specs.Turns.{endFrom, sourceFor, EndTurn, Finishes, endedAs};
 use answers::FinishAnswer;
+use end_turns::EndApplied;
 use pcm::Error;
 use pcm::PcmFormat;
 use pcm::Verdict;
@@ -63,9 +64,9 @@ fn finish_question(chain: Pipeline, shorter: usize) -> Verdict
 }
 
 // Stage i + 1 reads the n bytes that the stage before wrote, if any, and writes to half a where i is even, else to b.
-fn turn(format: PcmFormat, s: Stage, i: usize, n: usize, a: &mut [u8], b: &mut [u8]) -> usize
+fn turn(format: PcmFormat, s: Stage, i: usize, n: usize, a: &mut [u8], b: &mut [u8]) -> EndApplied
     requires { ⌜ (n ≤ length (now a)) × ((n ≤ length (now b)) × ServedToEnd format s (sourceFor i n (halves (now a) (now b))) (targetAt i (halves (now a) (now b)))) ⌝ }
-    ensures { λ r. ⌜ EndTurn format s (framesOf (format .channels) (sourceFor i n (halves (now (a .entry)) (now (b .entry))))) i r (halves (now (a .entry)) (now (b .entry))) (halves (now (a .exit)) (now (b .exit))) ⌝ }
+    ensures { λ r. ⌜ EndTurn format s (framesOf (format .channels) (sourceFor i n (halves (now (a .entry)) (now (b .entry))))) i (r .len) (r .clipped) (halves (now (a .entry)) (now (b .entry))) (halves (now (a .exit)) (now (b .exit))) ⌝ }
 {
     if i % 2 == 0 {
         return end_turns::end_turn(format, s, &b[..n], a);
@@ -73,32 +74,35 @@ fn turn(format: PcmFormat, s: Stage, i: usize, n: usize, a: &mut [u8], b: &mut [
     end_turns::end_turn(format, s, &a[..n], b)
 }
 
-// Every stage in turn, also after one that delivers nothing: how many bytes the last one delivers.
-fn end_stages(chain: Pipeline, a: &mut [u8], b: &mut [u8]) -> usize
+// Every stage in turn, also after one that delivers nothing: how many bytes the last one delivers, and how many samples they held back.
+fn end_stages(chain: Pipeline, a: &mut [u8], b: &mut [u8]) -> EndApplied
     requires { ⌜ Finishes chain (now a) (now b) ⌝ }
-    ensures { λ r. ⌜ (r ≡ finishBytes chain) × (halves (now (a .exit)) (now (b .exit)) ≡ endedHalves 0 (chain .format) (stagesOf chain) [] (halves (now (a .entry)) (now (b .entry)))) ⌝ }
+    ensures { λ r. ⌜ (r ≡ record { len = finishBytes chain; clipped = finishClipped chain }) × (halves (now (a .exit)) (now (b .exit)) ≡ endedHalves 0 (chain .format) (stagesOf chain) [] (halves (now (a .entry)) (now (b .entry)))) ⌝ }
 {
     let count = chain.count;
     let mut format = chain.format;
     let mut len: usize = 0;
+    let mut clipped: usize = 0;
     let mut i: usize = 0;
     while i < count {
         let s = chain.stages[i];
         let kind = s.kind;
-        len = turn(format, s, i, len, a, b);
+        let t = turn(format, s, i, len, a, b);
+        len = t.len;
+        clipped += t.clipped;
         format = stage::format_after(format, kind);
         i += 1;
     }
-    len
+    EndApplied { len, clipped }
 }
 
 // The chain cleared as by reset, and the answer.
-fn conclude(chain: Pipeline, len: usize) -> Finished
+fn conclude(chain: Pipeline, done: EndApplied) -> Finished
     requires { ⌜ legal chain ≡ true ⌝ }
-    ensures { λ r. ⌜ r ≡ endedAs chain len ⌝ }
+    ensures { λ r. ⌜ r ≡ endedAs chain done ⌝ }
 {
     let format = chain.output_format();
-    let answer = answers::finish_answered(format, chain.count, len);
+    let answer = answers::finish_answered(format, chain.count, done.len, done.clipped);
     let cleared = chain.reset();
     Finished {
         chain: cleared,
@@ -111,8 +115,8 @@ pub fn play(chain: Pipeline, a: &mut [u8], b: &mut [u8]) -> Finished
     requires { ⌜ Finishes chain (now a) (now b) ⌝ }
     ensures { λ r. ⌜ record { chain = r .chain; answer = r .answer; a = now (a .exit); b = now (b .exit) } ≡ finished chain (halves (now (a .entry)) (now (b .entry))) ⌝ }
 {
-    let len = end_stages(chain, a, b);
-    conclude(chain, len)
+    let done = end_stages(chain, a, b);
+    conclude(chain, done)
 }
 
 // The finish call: the chain afterwards and the answer. The output, where there is one, stands at the front of the half named.

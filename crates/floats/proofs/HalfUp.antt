@@ -2,7 +2,7 @@
 use mathlib.Core.Path.{_≡_, refl, sym, ap, _∙_, subst}
 use mathlib.Core.Logic.{_⊎_, inl, inr}
 use Prim.Native.Nat.{ℕ, zero, suc, _+_, _-_, _*_, _/_, _%_, _^_, _≤_, _<_, min}
-use native.Mathlib.Nat.{le-trans, lt-of-lt-of-le, eq-or-lt-of-le, le-of-suc-le-suc, le-add-right, add-mul, mul-assoc, mul-comm, mul-left-comm, mul-le-mul, mod-lt, div-add-mod', div-eq-of-lt, div-eq-of-lt-le, add-div-right, div-div-eq-div-mul, add-comm}
+use native.Mathlib.Nat.{le-trans, lt-of-lt-of-le, eq-or-lt-of-le, le-of-suc-le-suc, le-add-right, add-mul, mul-assoc, mul-comm, mul-left-comm, mul-le-mul, mod-lt, div-add-mod', div-eq-of-lt, div-eq-of-lt-le, add-div-right, div-div-eq-div-mul, le-div-iff-mul-le, add-comm}
 use native.Mathlib.Omega.{arith}
 use mathlib.Core.Bool.{Bool, true, false, not, cond}
 use borrow.Author.Tests.{leb-true, leb-false}
@@ -18,7 +18,6 @@ use Rattle.pcm.specs.laws.Tests.{lt-or-ge}
 use Rattle.floats.proofs.Fields.{fields-zero, fields-mid, fields-top, ofBits-is, digits-in, field-in, top-digits}
 use Rattle.floats.proofs.Nan.{pattern-in}
 use Rattle.floats.specs.Rounding.{halfUp, magnitude, roundSat}
-use Rattle.floats.proofs.Rounding.{halfUp-ge}
 
 -- ---- `halfUp` is one division, and equal fractions give the same number
 pub halfUp-is : (n d : ℕ) → 0 < d → halfUp n d ≡ (n * 2 + d) / (d * 2)
@@ -52,6 +51,18 @@ halfUp-same a b c d B D h =
 
 halfUp-zero : (n d : ℕ) → n * 2 < d → halfUp n d ≡ 0
 halfUp-zero n d h = halfUp-is n d (omega arith) ∙ div-eq-of-lt (omega arith)
+
+halfUp-ge : (k n d : ℕ) → 0 < d → k * d ≤ n → k ≤ halfUp n d
+unfolding halfUp
+halfUp-ge k n d D h = le-trans (le-div-iff-mul-le D .1 h) (le-add-right (n / d) _)
+
+-- n / d lies at most a half below the number, and less than a half above it
+module _ (n d : ℕ) (D : 0 < d) where
+  pub halfUp-below : halfUp n d * d * 2 ≤ n * 2 + d
+  halfUp-below = rw (halfUp-is n d D) (omega (arith, div-add-mod' (n * 2 + d) (d * 2)))
+
+  pub halfUp-above : n * 2 < halfUp n d * d * 2 + d
+  halfUp-above = rw (halfUp-is n d D) (omega (arith, div-add-mod' (n * 2 + d) (d * 2), mod-lt (n * 2 + d) (twice-pos d D)))
 
 -- ---- what the shift computes: the last digit shifted out is the half
 pub shifted : (m j : ℕ) → (m * 8 / 2 ^ j + 1) / 2 ≡ halfUp (m * 4) (2 ^ j)

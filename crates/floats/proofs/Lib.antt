@@ -1,6 +1,8 @@
 mod Fields
 mod HalfUp
+mod Held
 mod Nan
-mod Rounding
+mod Nudged
 mod Short
 mod Ties
+mod Whole

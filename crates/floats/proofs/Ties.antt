@@ -1,7 +1,7 @@
 -- A fraction to the nearest whole number, a tie to the even one, by how twice the remainder compares with the divisor. Assumes nothing.
 use mathlib.Core.Path.{_≡_, refl, sym, ap, _∙_, subst}
-use Prim.Native.Nat.{ℕ, _+_, _-_, _*_, _/_, _%_, _^_, _≤_, _<_, compare, Ordering, Ordering·lt, Ordering·eq, Ordering·gt}
-use native.Mathlib.Nat.{le-trans, div-eq-of-lt, mod-eq-of-lt, div-mul-le-self, div-add-mod', one-mul}
+use Prim.Native.Nat.{ℕ, suc, _+_, _-_, _*_, _/_, _%_, _^_, _≤_, _<_, compare, Ordering, Ordering·lt, Ordering·eq, Ordering·gt}
+use native.Mathlib.Nat.{le-trans, le-antisymm, le-of-suc-le-suc, lt-of-mul-lt-mul-right, div-eq-of-lt, mod-eq-of-lt, mod-lt, div-mul-le-self, div-add-mod', one-mul}
 use lib.Pow.{pow-add, shl-exact}
 use native.Mathlib.Omega.{arith}
 use mathlib.Core.Bool.{not}
@@ -78,3 +78,18 @@ half k lo hi =
   where
     back : (k : ℕ) → 1 ≤ k → k - 1 + 1 ≡ k
     back k h = omega arith
+
+-- less than a half away
+pub closest-within : (a b c : ℕ) → c * b * 2 < a * 2 + b → a * 2 < c * b * 2 + b → closest a b ≡ c
+closest-within a b c low high = go (compare (a % b * 2) b) (cmp (a % b * 2) b)
+  where
+    upto : (x y : ℕ) → x * b < suc y * b → x ≤ y
+    upto x y h = le-of-suc-le-suc (lt-of-mul-lt-mul-right b h)
+
+    above : 0 < b
+    above = omega arith
+
+    go : (o : Ordering) → Cmp o (a % b * 2) b → nearest (a / b) o ≡ c
+    go Ordering·lt h = le-antisymm (upto (a / b) c (omega (arith, div-add-mod' a b))) (upto c (a / b) (omega (arith, div-add-mod' a b)))
+    go Ordering·eq h = absurd (omega (arith, upto (suc (a / b)) c (omega (arith, div-add-mod' a b)), upto c (a / b) (omega (arith, div-add-mod' a b))))
+    go Ordering·gt h = le-antisymm (upto (suc (a / b)) c (omega (arith, div-add-mod' a b))) (upto c (suc (a / b)) (omega (arith, div-add-mod' a b, mod-lt a above)))

@@ -6,8 +6,11 @@ ghost use lib.Dec.{leb};
 ghost use lib.IntN.{pos, negℤ};
 ghost use lib.Ieee.{binary32, ofBits};
 ghost use lib.Ieee.Nearest.{closest};
+ghost use mir.Syntax.{w16};
+ghost use mir.Val.{toZ};
 ghost use Rattle.floats.specs.Floats.{patternOf, narrowed};
-ghost use Rattle.floats.specs.Rounding.{magnitude, roundSat, rounded16, atLeast, atMost, heldFloat};
+ghost use Rattle.floats.specs.Rounding.{magnitude, roundSat, rounded16, clipped, roundedSample, atLeast, atMost, heldFloat};
+use pcm::Saturated;
 
 // The float that a pattern stands for; every NaN's pattern gives a NaN.
 pub fn float_of_bits(n: u32) -> f32
@@ -86,11 +89,12 @@ fn at_most(x: f32, high: f32) -> f32
     if high < x { high } else { x }
 }
 
-// x held within the sample range, a NaN as it is: sound that is too loud then takes the same way as other sound.
-pub fn hold16(x: f32) -> f32
+// x held where it still rounds to a limit of the sample range, a NaN as it is: sound that is too loud then takes the same way as
+// other sound.
+fn hold16(x: f32) -> f32
     ensures { λ r. ⌜ r ≡ heldFloat x ⌝ }
 {
-    at_most(at_least(x, -32768.0), 32767.0)
+    at_most(at_least(x, -32768.49609375), 32767.498046875)
 }
 
 // m / 2^k to the nearest whole number, a tie to the even one.
@@ -144,9 +148,40 @@ pub fn narrow(x: f64) -> f32
     }
 }
 
-// To the nearest whole number, halves away from zero, held within the sample range; a NaN gives 0.
-pub fn round_sat16(v: f32) -> i16
+// To the nearest whole number, halves away from zero, held within the sample range; a NaN gives 0. A sample at exactly the limit was
+// not held back; a NaN was.
+pub fn round_sat16(v: f32) -> Saturated
+    ensures { λ r. ⌜ r ≡ roundedSample v ⌝ }
+{
+    let sample = rounded16(v);
+    let clipped = clipped(v);
+    Saturated { sample, clipped }
+}
+
+// The sample alone. The float is held before it is rounded, so nothing is to be held afterwards.
+// Past 2^52 a binary64 is a whole number, so the sum with 3 * 2^51 is rounded, and its lowest bits are the sample's. It rounds
+// ties to even; the factor 1 + 2^-28 takes halves away from zero before, and nothing else past a half.
+pub fn rounded16(v: f32) -> i16
     ensures { λ r. ⌜ r ≡ rounded16 v ⌝ }
 {
-    round_held(hold16(v), 32768, 32767) as i16
+    let h = hold16(v);
+    if h != h {
+        return 0;
+    }
+    low16(f64::to_bits((h as f64) * 1.0000000037252903 + 6755399441055744.0))
+}
+
+// The sample whose 16 bits stand lowest.
+fn low16(b: u64) -> i16
+    ensures { λ r. ⌜ r ≡ toZ w16 (b % 65536) ⌝ }
+{
+    let u = (b % 65536) as u32;
+    ((((u + 32768) % 65536) as i32) - 32768) as i16
+}
+
+// Whether it is held back: holding the float changes it. A NaN differs from itself.
+pub fn clipped(v: f32) -> bool
+    ensures { λ r. ⌜ r ≡ clipped v ⌝ }
+{
+    hold16(v) != v
 }

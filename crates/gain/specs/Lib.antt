@@ -1,3 +1,4 @@
+pub mod Clipping
 pub mod Gain
 pub mod Theorems
 pub mod laws

@@ -1,11 +1,13 @@
 // `Gain`: fixed-point Q15 gain with rounding and saturation (elements/gain.rs).
 ghost use mathlib.Core.Path.{_≡_};
-ghost use Prim.Native.Nat.{_≤_, _%_};
+ghost use Prim.Native.Nat.{min, _≤_, _%_};
 ghost use lib.IntN.{pos, negℤ, natAbs, _-ℤ_, _*ℤ_};
 ghost use lib.ListN.{length};
-ghost use Rattle.pcm.specs.Integers.{floorDiv};
-ghost use Rattle.pcm.specs.Samples.{held16};
+ghost use Rattle.pcm.specs.Integers.{−, floorDiv};
+ghost use Rattle.pcm.specs.Samples.{decode, held16, outside};
 ghost use Rattle.pcm.specs.Frames.{written};
+ghost use Rattle.counting.specs.Counting.{countOf};
+ghost use Rattle.gain.specs.Clipping.{clippedIn};
 ghost use Rattle.gain.specs.Gain.{factorAllowed, heldFactor, linearFactor, scaled, scaledBytes, unity};
 
 pub struct Gain {
@@ -69,17 +71,19 @@ impl Gain {
         scale_full(x, self.q15)
     }
 
-    // Each sample of input, at the front of out.
-    pub fn process(self, input: &[u8], out: &mut [u8])
+    // Each sample of input, at the front of out; how many were held back.
+    pub fn process(self, input: &[u8], out: &mut [u8]) -> usize
         requires { ⌜ (length (now input) % 2 ≡ 0) × (length (now input) ≤ length (now out)) × (natAbs (self .q15) ≤ 33554432) ⌝ }
-        ensures { λ _. ⌜ now (out .exit) ≡ written (scaledBytes (self .q15) (now (input .entry))) (now (out .entry)) ⌝ }
+        ensures { λ r. ⌜ (now (out .exit) ≡ written (scaledBytes (self .q15) (now (input .entry))) (now (out .entry))) × (r ≡ clippedIn (self .q15) (decode (now (input .entry)))) ⌝ }
     {
         let q = self.q15;
         if q == 32768 {
             copying::copy_front(input, out);
-            return;
+            return 0;
         }
+        let clipped = count_clipped(input, q);
         gain_samples(input, out, q);
+        clipped
     }
 }
 
@@ -135,7 +139,7 @@ fn scale_positive(x: i16, p: u32) -> i16
     requires { ⌜ p ≤ 33554432 ⌝ }
     ensures { λ r. ⌜ r ≡ scaled (pos p) x ⌝ }
 {
-    pcm::sat16(times(x, p / 32768) - low_part(x, p, 16383))
+    pcm::held16(times(x, p / 32768) - low_part(x, p, 16383))
 }
 
 // One sample by the factor -p.
@@ -143,7 +147,7 @@ fn scale_negative(x: i16, p: u32) -> i16
     requires { ⌜ p ≤ 33554432 ⌝ }
     ensures { λ r. ⌜ r ≡ scaled (negℤ (pos p)) x ⌝ }
 {
-    pcm::sat16(low_part(x, p, 16384) - times(x, p / 32768))
+    pcm::held16(low_part(x, p, 16384) - times(x, p / 32768))
 }
 
 // One sample by a factor within the limit. The compiler takes the tests of the sign out of the loop.
@@ -169,4 +173,79 @@ fn gain_samples(input: &[u8], out: &mut [u8], q: i32)
         pcm::put_i16(out, i, scale(pcm::get_i16(input, i), q));
         i += 2;
     }
+}
+
+// Does a sample lie outside lo to hi?
+fn outside(x: i16, lo: i16, hi: i16) -> bool
+    ensures { λ r. ⌜ r ≡ outside lo hi x ⌝ }
+{
+    if x < lo {
+        return true;
+    }
+    x > hi
+}
+
+// The samples outside lo to hi of at most 65,536 bytes, so that the count fits 16 bits and eight samples go at a time.
+fn span_outside(s: &[u8], lo: i16, hi: i16) -> u16
+    requires { ⌜ (length (now s) % 2 ≡ 0) × (length (now s) ≤ 65536) ⌝ }
+    ensures { λ r. ⌜ r ≡ countOf (outside lo hi) (decode (now (s .entry))) ⌝ }
+{
+    let n = s.len();
+    let mut i: usize = 0;
+    let mut c: u16 = 0;
+    while i < n {
+        c += counting::one(outside(pcm::get_i16(s, i), lo, hi)) as u16;
+        i += 2;
+    }
+    c
+}
+
+// The same of any number of bytes.
+fn count_outside(s: &[u8], lo: i16, hi: i16) -> usize
+    requires { ⌜ length (now s) % 2 ≡ 0 ⌝ }
+    ensures { λ r. ⌜ r ≡ countOf (outside lo hi) (decode (now (s .entry))) ⌝ }
+{
+    let n = s.len();
+    let mut at: usize = 0;
+    let mut c: usize = 0;
+    while at < n {
+        let to = at + counting::least(n - at, 65536);
+        c += span_outside(&s[at..to], lo, hi) as usize;
+        at = to;
+    }
+    c
+}
+
+// n as the highest sample that is not held back.
+fn top(n: u32) -> i16
+    ensures { λ r. ⌜ r ≡ pos (min n 32767) ⌝ }
+{
+    if n < 32767 {
+        return n as i16;
+    }
+    32767
+}
+
+// -n as the lowest.
+fn bottom(n: u32) -> i16
+    requires { ⌜ n ≤ 32767 ⌝ }
+    ensures { λ r. ⌜ r ≡ − n ⌝ }
+{
+    (0 - (n as i32)) as i16
+}
+
+// How many samples of input the factor holds back. A product above 1,073,725,439 rounds to more than 32,767, and one below
+// -1,073,758,208 to less than -32,768: a division each gives the samples between. From -32,767 to 32,768 there are no others.
+fn count_clipped(input: &[u8], q: i32) -> usize
+    requires { ⌜ (length (now input) % 2 ≡ 0) × (natAbs q ≤ 33554432) ⌝ }
+    ensures { λ r. ⌜ r ≡ clippedIn q (decode (now (input .entry))) ⌝ }
+{
+    let p = magnitude(q);
+    if q > 32768 {
+        return count_outside(input, bottom(1073758208 / p), top(1073725439 / p));
+    }
+    if q < -32767 {
+        return count_outside(input, bottom(1073725439 / p), top(1073758208 / p));
+    }
+    0
 }

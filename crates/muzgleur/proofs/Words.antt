@@ -12,6 +12,6 @@ stay-all : (w : List ℕ) → SettingsStay w w
 stay-all w = record { long = refl; head = λ j h. refl; seventh = refl; settings = λ i j h. refl; spare = λ j h. refl }
 
 pub block-words : (x : Answer) (w w′ : List ℕ) → WordsAfter x w w′ → (answerTold x .outcome ≡ 0 → w′ ≡ w) × SettingsStay w w′
-block-words (answer.Output f timestamp side len) w w′ h = (λ e. absurd (let z : ⊥ = omega arith in z), h)
-block-words answer.NothingYet w w′ h = (λ e. absurd (let z : ⊥ = omega arith in z), h)
+block-words (answer.Output f timestamp side len clipped) w w′ h = (λ e. absurd (let z : ⊥ = omega arith in z), h)
+block-words (answer.NothingYet clipped) w w′ h = (λ e. absurd (let z : ⊥ = omega arith in z), h)
 block-words (answer.Refused e) w w′ h = (λ z. h, subst (SettingsStay w) (sym h) (stay-all w))

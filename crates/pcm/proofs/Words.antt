@@ -1,9 +1,8 @@
 -- A sample as the machine reads and writes it: 16 bits moved up by half the range, and down again. Assumes nothing.
 use mathlib.Core.Path.{_≡_, refl, sym, ap, _∙_, subst}
-use mathlib.Core.Logic.{⊎-elim}
-use Prim.Native.Nat.{ℕ, suc, _+_, _-_, _*_, _%_, _≤_, _<_}
+use Prim.Native.Nat.{ℕ, suc, _+_, _-_, _*_, _%_, _<_}
 use native.Mathlib.Omega.{arith}
-use borrow.Author.Tests.{lt-ltb, le-ltb}
+use borrow.Author.Tests.{le-ltb}
 use lib.Dec.{T}
 use lib.IntN.{ℤ, pos, negsuc, _+ℤ_, _-ℤ_, natAbs}
 use lib.Signed.{nonNeg}
@@ -11,17 +10,11 @@ use mir.Syntax.{w16, w32}
 use mir.Val.{SFits, Fits, toZ, ofZ}
 use mir.Facts.{toZ-pos}
 use Rattle.pcm.specs.Samples.{sampleOf}
-use Rattle.pcm.specs.laws.Tests.{lt-or-ge}
-
-unbias : (u : ℕ) → u < 65536 → pos ((u + 32768) % 65536) -ℤ pos 32768 ≡ toZ w16 u
-unbias u h = ⊎-elim
-    (λ (l : u < 32768). let g : 32768 ≤ (u + 32768) % 65536 = omega arith in simp (le-ltb _ _ g, lt-ltb _ _ l) (ap pos (omega arith)))
-    (λ (l : 32768 ≤ u). let g : (u + 32768) % 65536 < 32768 = omega arith in simp (lt-ltb _ _ g, le-ltb _ _ l) (ap negsuc (omega arith)))
-    (lt-or-ge u 32768)
+use Rattle.pcm.specs.laws.Samples.{lowered}
 
 pub sample-is : (lo hi : ℕ) → lo < 256 → hi < 256 → toZ w32 ((lo + 256 * hi + 32768) % 65536) -ℤ pos 32768 ≡ sampleOf lo hi
 unfolding sampleOf
-sample-is lo hi h k = ap (λ z. z -ℤ pos 32768) (toZ-pos w32 {n = (lo + 256 * hi + 32768) % 65536} (omega arith)) ∙ unbias (lo + 256 * hi) (omega arith)
+sample-is lo hi h k = lowered (lo + 256 * hi) (omega arith)
 
 -- a sample moved up by the whole range is not negative, and holds the sample's bits
 record Raised (z : ℤ) : Type 0 where

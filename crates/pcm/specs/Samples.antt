@@ -1,5 +1,5 @@
 -- A sample is 16-bit signed, low byte first (document 01, lib.rs). Definitions only.
-use mathlib.Core.Bool.{cond}
+use mathlib.Core.Bool.{Bool, cond, _||_}
 use mathlib.Core.List.{List, [], _∷_}
 use Prim.Native.Nat.{ℕ, _+_, _*_, _/_, _%_, _<_}
 use lib.IntN.{ℤ, pos}
@@ -7,6 +7,7 @@ use lib.ListN.{getD, set}
 use lib.Signed.{ltZ}
 use mir.Syntax.{w16}
 use mir.Val.{SFits, toZ, ofZ}
+use Rattle.pcm.specs.declared.Saturated.{Saturated}
 use Rattle.pcm.specs.Integers.{−}
 
 -- a number held within low and high
@@ -16,6 +17,18 @@ held low high z = cond (ltZ z low) low (cond (ltZ high z) high z)
 -- sat16 holds a number within −32,768 to 32,767
 abbrev pub held16 : ℤ → ℤ
 held16 z = held (− 32768) (pos 32767) z
+
+-- a number outside low to high
+unfoldable pub outside : ℤ → ℤ → ℤ → Bool
+outside low high z = ltZ z low || ltZ high z
+
+-- sat16 holds such a number back (document 02, Q-2): a sample at exactly the limit is not clipped
+abbrev pub outside16 : ℤ → Bool
+outside16 z = outside (− 32768) (pos 32767) z
+
+-- the sample, and whether it was held back
+abbrev pub saturated : ℤ → Saturated
+saturated z = record { sample = held16 z; clipped = outside16 z }
 
 -- the sample that two bytes hold
 unfoldable pub sampleOf : ℕ → ℕ → ℤ

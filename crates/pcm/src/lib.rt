@@ -4,7 +4,7 @@ ghost use Prim.Native.Nat.{_+_, _<_};
 ghost use lib.ListN.{length};
 ghost use Rattle.pcm.specs.Formats.{rateAllowed, formatAllowed, frameBytes};
 ghost use Rattle.pcm.specs.Refusals.{refusal, numberOf, roomVerdict};
-ghost use Rattle.pcm.specs.Samples.{held16, sampleOf, sampleAt, stored};
+ghost use Rattle.pcm.specs.Samples.{held16, outside16, saturated, sampleOf, sampleAt, stored};
 
 pub const MAX_CHANNELS: u16 = 2;
 
@@ -130,8 +130,23 @@ pub fn require_room(out: &[u8], needed: usize) -> Verdict
     Verdict::Accepted
 }
 
-// A number held within the sample range.
-pub fn sat16(v: i32) -> i16
+// A sample, and whether it was held back.
+pub struct Saturated {
+    pub sample: i16,
+    pub clipped: bool,
+}
+
+// A number held within the sample range; a sample at exactly the limit was not held back.
+pub fn sat16(v: i32) -> Saturated
+    ensures { λ r. ⌜ r ≡ saturated v ⌝ }
+{
+    let sample = held16(v);
+    let clipped = outside16(v);
+    Saturated { sample, clipped }
+}
+
+// The sample alone.
+pub fn held16(v: i32) -> i16
     ensures { λ r. ⌜ r ≡ held16 v ⌝ }
 {
     if v < -32768 {
@@ -141,6 +156,16 @@ pub fn sat16(v: i32) -> i16
         return 32767;
     }
     v as i16
+}
+
+// Whether it is held back.
+pub fn outside16(v: i32) -> bool
+    ensures { λ r. ⌜ r ≡ outside16 v ⌝ }
+{
+    if v < -32768 {
+        return true;
+    }
+    v > 32767
 }
 
 // The sample that two bytes hold.

@@ -11,8 +11,8 @@ use cookbook::BiquadKind;
 use cookbook::Coefficients;
 use dc_block::DcBlock;
 use gain::Gain;
-use pcm::Error;
 use pcm::PcmFormat;
+use pcm::Saturated;
 use pcm::Verdict;
 use pipeline::Pipeline;
 use rates::LinearResampler;
@@ -48,16 +48,6 @@ fn double_of_bits(n: u64) -> f64 {
 fn valued(number: u16, value: u64) {
     output::short(number);
     output::long(value);
-}
-
-// Number and needed of a refusal.
-fn refusal(e: Error) {
-    valued(e.number(), e.needed() as u64);
-}
-
-// Number and needed of a result.
-fn result() {
-    valued(0, 0);
 }
 
 fn ended(chain: Pipeline) -> Step {
@@ -120,6 +110,13 @@ fn counted(chain: Pipeline) -> Step {
     Step { ok: true, chain }
 }
 
+// The counters, how many samples the call held back, and the chain in use from now on.
+fn clipped(chain: Pipeline, samples: usize) -> Step {
+    counters(chain);
+    output::long(samples as u64);
+    Step { ok: true, chain }
+}
+
 // The block call and its answer.
 fn played(
     chain: Pipeline,
@@ -135,7 +132,7 @@ fn played(
     told(t.number, t.needed, t.outcome, t.rate, t.channels);
     output::long(t.timestamp);
     lent(t.half, t.len, a, b);
-    counted(done.chain)
+    clipped(done.chain, t.clipped)
 }
 
 // The halves, and the call.
@@ -181,7 +178,7 @@ fn finished(chain: Pipeline, a: &mut [u8], b: &mut [u8]) -> Step {
     let t = answer.told();
     told(t.number, t.needed, t.outcome, t.rate, t.channels);
     lent(t.half, t.len, a, b);
-    counted(done.chain)
+    clipped(done.chain, t.clipped)
 }
 
 pub fn finish(chain: Pipeline, a: &mut [u8], b: &mut [u8]) -> Step {
@@ -232,12 +229,10 @@ pub fn output_format(chain: Pipeline) -> bool {
 
 // The call, and the room afterwards.
 fn mixed(a: &[u8], b: &[u8], out: &mut [u8]) {
-    let verdict = channels::mix_i16(a, b, out);
-    match verdict {
-        Verdict::Accepted => result(),
-        Verdict::Refused(e) => refusal(e),
-    }
+    let t = channels::mix_i16(a, b, out).told();
+    valued(t.number, t.needed as u64);
     output::bytes(out);
+    output::long(t.clipped as u64);
 }
 
 pub fn mix(a: &mut [u8], b: &mut [u8], out: &mut [u8]) -> bool {
@@ -350,12 +345,18 @@ pub fn linear() -> bool {
     true
 }
 
+// A sample, and 1 where it was held back.
+fn held(s: Saturated) {
+    output::sample(s.sample);
+    output::byte(if s.clipped { 1 } else { 0 });
+}
+
 pub fn round_sat16() -> bool {
     let mut s = [0u8; 4];
     if !input::filled(&mut s) {
         return false;
     }
-    output::sample(floats::round_sat16(get_float(&s, 0)));
+    held(floats::round_sat16(get_float(&s, 0)));
     true
 }
 
@@ -364,6 +365,6 @@ pub fn sat16() -> bool {
     if !input::filled(&mut s) {
         return false;
     }
-    output::sample(pcm::sat16(words::signed(words::get_u32(&s, 0))));
+    held(pcm::sat16(words::signed(words::get_u32(&s, 0))));
     true
 }

@@ -7,10 +7,11 @@ use pcm::PcmFormat;
 use pipeline::Pipeline;
 use std::num::wrapping_add_u64;
 
-// Frames that came out, and a checksum of 32 bits.
+// Frames that came out, a checksum of 32 bits, and samples that were held back.
 struct Tally {
     frames: u64,
     checksum: u64,
+    clipped: u64,
 }
 
 fn wide(x: u8) -> u64
@@ -80,25 +81,34 @@ fn tallied<'a>(tally: Tally, first: bool, answer: Answer, a: &'a [u8], b: &'a [u
             timestamp: _,
             half,
             len,
+            clipped,
         } => {
             let out = answers::output(a, b, half, len);
             let frames = wrapping_add_u64(tally.frames, frames_in(format, len));
             let checksum = end_summed(tally.checksum, out);
+            let clipped = wrapping_add_u64(tally.clipped, clipped as u64);
             if first {
                 return Tally {
                     frames,
                     checksum: all_summed(checksum, out),
+                    clipped,
                 };
             }
-            Tally { frames, checksum }
+            Tally {
+                frames,
+                checksum,
+                clipped,
+            }
         }
-        Answer::NothingYet => Tally {
+        Answer::NothingYet { clipped } => Tally {
             frames: tally.frames,
             checksum: summed(tally.checksum, 0),
+            clipped: wrapping_add_u64(tally.clipped, clipped as u64),
         },
         Answer::Refused(e) => Tally {
             frames: tally.frames,
             checksum: summed(tally.checksum, e.number() as u64),
+            clipped: tally.clipped,
         },
     }
 }
@@ -149,12 +159,14 @@ fn passes(run: Run, times: u32, size: usize, sound: &[u8], a: &mut [u8], b: &mut
     last
 }
 
-// Frames and checksum.
+// Frames and checksum; then, in a line of its own, the samples held back.
 fn print(tally: Tally) {
     io::print_decimal(1, tally.frames);
     io::write_all(1, b" frames, checksum ");
     io::print_decimal(1, tally.checksum);
     io::write_all(1, b"\n");
+    io::print_decimal(1, tally.clipped);
+    io::write_all(1, b" clipped\n");
 }
 
 // So many bytes of noise through the chain, and what came out.
@@ -168,6 +180,7 @@ fn play(chain: Pipeline, times: u32, size: usize, length: usize)
     let tally = Tally {
         frames: 0,
         checksum: 0,
+        clipped: 0,
     };
     let done = passes(
         Run { chain, tally },

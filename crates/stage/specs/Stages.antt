@@ -1,10 +1,13 @@
--- A stage on frames: what it makes of them and what it keeps, the format that leaves it (document 01, 'The whole stream'). Assumes nothing.
+-- A stage on frames: what it makes of them, what it keeps and how many samples it holds back, the format that leaves it (document 01, 'The
+-- whole stream'; document 02, Q-2). Assumes nothing.
 use mathlib.Core.Bool.{Bool, true, false}
 use mathlib.Core.List.{List, map}
+use Prim.Native.Nat.{ℕ}
 use Rattle.pcm.specs.declared.PcmFormat.{PcmFormat}
-use Rattle.pcm.specs.Frames.{Frame}
-use Rattle.filters.specs.Filters.{tapsOf, filtered, memoryNext, memoryAtRest}
+use Rattle.pcm.specs.Frames.{Frame, flat}
+use Rattle.filters.specs.Filters.{tapsOf, filtered, filterClipped, memoryNext, memoryAtRest}
 use Rattle.gain.specs.Gain.{scaled}
+use Rattle.gain.specs.Clipping.{clippedIn}
 use Rattle.channels.specs.Channels.{doubled, mixdown}
 use Rattle.dc_block.specs.DcBlock.{dcTick}
 use Rattle.biquad.specs.Recurrence.{biquadTick}
@@ -33,6 +36,15 @@ keepsOf (kind.Resample r) m xs = record { filter = m .filter; resampler = stateA
 keepsOf (kind.DcBlock b) m xs = record { filter = memoryNext (dcTick (b .r)) (m .filter) xs; resampler = m .resampler }
 keepsOf (kind.Biquad b) m xs = record { filter = memoryNext (biquadTick (b .coefficients)) (m .filter) xs; resampler = m .resampler }
 
+-- how many samples it holds back; the channel stages and the resampler hold nothing back
+abbrev pub clippedOf : StageKind → SoundMemory → List Frame → ℕ
+clippedOf (kind.Gain g) m xs = clippedIn (g .q15) (flat xs)
+clippedOf kind.MonoToStereo m xs = 0
+clippedOf kind.StereoToMono m xs = 0
+clippedOf (kind.Resample r) m xs = 0
+clippedOf (kind.DcBlock b) m xs = filterClipped (dcTick (b .r)) (tapsOf (m .filter)) xs
+clippedOf (kind.Biquad b) m xs = filterClipped (biquadTick (b .coefficients)) (tapsOf (m .filter)) xs
+
 abbrev pub remembers : StageKind → Bool
 remembers (kind.Gain g) = false
 remembers kind.MonoToStereo = false
@@ -46,6 +58,9 @@ stageOut s xs = outOf (s .kind) (s .memory) xs
 
 unfoldable pub stageNext : Stage → List Frame → Stage
 stageNext s xs = record { kind = s .kind; memory = keepsOf (s .kind) (s .memory) xs }
+
+unfoldable pub stageClipped : Stage → List Frame → ℕ
+stageClipped s xs = clippedOf (s .kind) (s .memory) xs
 
 -- ---- the kinds of stages, in chain order
 abbrev pub kindsOf : List Stage → List StageKind

@@ -40,8 +40,8 @@ acceptedBlocks o calls = acceptedFrom o (running []) calls
 
 -- one for 'nothing yet'
 abbrev pub oneIfNothing : Answer → ℕ
-oneIfNothing (answer.Output format timestamp side len) = 0
-oneIfNothing answer.NothingYet = 1
+oneIfNothing (answer.Output format timestamp side len clipped) = 0
+oneIfNothing (answer.NothingYet clipped) = 1
 oneIfNothing (answer.Refused e) = 0
 
 -- the block calls that answer 'nothing yet'; finish moves no counter

@@ -7,14 +7,16 @@ use Rattle.pcm.specs.declared.PcmFormat.{PcmFormat}
 use Rattle.pcm.specs.declared.Error.the-variants.{BufferTooSmall}
 use Rattle.pcm.specs.declared.Verdict.the-variants.{Accepted}
 use Rattle.pcm.specs.Formats.{rateAllowed, channelsAllowed, formatAllowed}
-use Rattle.pcm.specs.Samples.{sampleOf, lowOf, highOf}
+use Rattle.pcm.specs.Samples.{held, outside, sampleOf, lowOf, highOf}
 use Rattle.pcm.specs.Frames.{Frame, framesOf, bytesOf, written}
+use Rattle.gain.specs.Gain.{scaled}
+use Rattle.gain.specs.Clipping.{clippedBy, clippedIn}
 use Rattle.rates.specs.Divisor.{gcd, largestDivisor}
 use Rattle.rates.specs.Rates.{carriedCount, resampledCount, ratesAllowed, reduced, roomFrames}
 use Rattle.resample.specs.Value.{interpolated}
 use Rattle.resample.specs.Resample.{blend, outputAt, wholeOutputs, among, firstAt, outputsFrom, carriedOutputs, carriedState, resampled, stateAfter, resampledWhole}
 use Rattle.stage.specs.declared.StageKind.the-variants as kind
-use Rattle.stage.specs.Stages.{stageOut, stageNext, stageAsOpened}
+use Rattle.stage.specs.Stages.{stageOut, stageNext, stageClipped, stageAsOpened}
 use Rattle.stage.specs.Rooms.{ratesSuit, stageSuits, framesOut, framesWanted, roomWanted}
 use Rattle.recipe.specs.Records.{recordVerdict, recordOf, recordBytes}
 use Rattle.opening.specs.Opening.{stageVerdict}
@@ -66,20 +68,28 @@ lentHalf = 7 ∷ 7 ∷ 7 ∷ 7 ∷ 7 ∷ 7 ∷ 7 ∷ 7 ∷ 7 ∷ 7 ∷ []
 abbrev played : Pipeline → List ℕ → Result
 played c bytes = blockCall c mono8000 0 bytes lentHalf lentHalf
 
-cut-f : (played opened (0 ∷ 0 ∷ []) .answer ≡ NothingYet)
+cut-f : (played opened (0 ∷ 0 ∷ []) .answer ≡ NothingYet 0)
     × (callOutput (played (played opened (0 ∷ 0 ∷ []) .chain) (100 ∷ 0 ∷ 50 ∷ 0 ∷ [])) ≡ 0 ∷ 0 ∷ 50 ∷ 0 ∷ 100 ∷ 0 ∷ 75 ∷ 0 ∷ [])
-unfolding blockCall blockVerdict legal suited stageSuits ratesSuit ratesAllowed rateAllowed channelsAllowed formatAllowed roomsVerdict roomWanted framesWanted framesOut resampledCount carriedCount roomFrames accepted passed written bytesOf framesOf sampleOf lowOf highOf formatLeaving stageOut stageNext resampled stateAfter carriedOutputs outputsFrom carriedState among firstAt outputAt blend interpolated reduced gcd largestDivisor chainOf
+unfolding blockCall blockVerdict legal suited stageSuits ratesSuit ratesAllowed rateAllowed channelsAllowed formatAllowed roomsVerdict roomWanted framesWanted framesOut resampledCount carriedCount roomFrames accepted passed written bytesOf framesOf sampleOf lowOf highOf formatLeaving stageOut stageNext stageClipped resampled stateAfter carriedOutputs outputsFrom carriedState among firstAt outputAt blend interpolated reduced gcd largestDivisor chainOf
 cut-f = (
   ap (λ (c : Pipeline). played c (0 ∷ 0 ∷ []) .answer) chain-f,
   ap (λ (c : Pipeline). callOutput (played (played c (0 ∷ 0 ∷ []) .chain) (100 ∷ 0 ∷ 50 ∷ 0 ∷ []))) chain-f,
 )
+
+-- ---- a gain of 2 before it: of 20,000 one sample is clipped, and the call is 'nothing yet' all the same (document 02, Q-2)
+abbrev louder : Pipeline
+louder = chainOf mono8000 (stageAsOpened (kind.Gain (record { q15 = pos 65536 })) ∷ stageAsOpened (kind.Resample (reduced 8000 16000)) ∷ [])
+
+clipped-first : played louder (0x20 ∷ 0x4E ∷ []) .answer ≡ NothingYet 1
+unfolding blockCall blockVerdict legal suited stageSuits ratesSuit ratesAllowed rateAllowed channelsAllowed formatAllowed roomsVerdict roomWanted framesWanted framesOut resampledCount carriedCount roomFrames accepted passed written bytesOf framesOf sampleOf lowOf highOf formatLeaving stageOut stageNext stageClipped resampled stateAfter carriedOutputs outputsFrom carriedState among firstAt outputAt blend interpolated reduced gcd largestDivisor chainOf clippedIn clippedBy outside scaled held
+clipped-first = refl
 
 -- then finish delivers 50; with a half of one byte it is 3, and needed is 4
 abbrev waiting : Pipeline → Pipeline
 waiting c = played (played c (0 ∷ 0 ∷ []) .chain) (100 ∷ 0 ∷ 50 ∷ 0 ∷ []) .chain
 
 end-f : (finishOutput (finishCall (waiting opened) lentHalf lentHalf) ≡ 50 ∷ 0 ∷ []) × (finishCall (waiting opened) (7 ∷ []) lentHalf .answer ≡ finished.Refused (BufferTooSmall 4))
-unfolding blockCall blockVerdict legal suited stageSuits ratesSuit ratesAllowed rateAllowed channelsAllowed formatAllowed roomsVerdict roomWanted framesWanted framesOut resampledCount carriedCount roomFrames accepted passed written bytesOf framesOf sampleOf lowOf highOf formatLeaving stageOut stageNext resampled stateAfter carriedOutputs outputsFrom carriedState among firstAt outputAt blend interpolated reduced gcd largestDivisor chainOf heldLast resamplerEnd endCount endFrameCount stageEnd framesAtEnd chainEnd roomAtEnd endVerdict finishVerdict endedHalves finishing.finished finishCall
+unfolding blockCall blockVerdict legal suited stageSuits ratesSuit ratesAllowed rateAllowed channelsAllowed formatAllowed roomsVerdict roomWanted framesWanted framesOut resampledCount carriedCount roomFrames accepted passed written bytesOf framesOf sampleOf lowOf highOf formatLeaving stageOut stageNext stageClipped resampled stateAfter carriedOutputs outputsFrom carriedState among firstAt outputAt blend interpolated reduced gcd largestDivisor chainOf heldLast resamplerEnd endCount endFrameCount stageEnd framesAtEnd chainEnd roomAtEnd endVerdict finishVerdict endedHalves finishing.finished finishCall
 end-f = (
   ap (λ (c : Pipeline). finishOutput (finishCall (waiting c) lentHalf lentHalf)) chain-f,
   ap (λ (c : Pipeline). finishCall (waiting c) (7 ∷ []) lentHalf .answer) chain-f,

@@ -5,6 +5,7 @@ pub mod FromChain
 pub mod OneCall
 pub mod Opened
 pub mod PlainChain
+pub mod PlainClipped
 pub mod PlainEnd
 pub mod PlainRoom
 pub mod Resamplers

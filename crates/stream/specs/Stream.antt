@@ -1,12 +1,11 @@
 -- The stream that the plain chain is fed, and the calls one after another (document 01, 'The whole stream'; document 02, Q-1). Definitions only.
 use mathlib.Core.List.{List, [], _∷_, _++_}
-use Prim.Native.Nat.{ℕ}
 use Rattle.pcm.specs.declared.Verdict.{Verdict}
 use Rattle.pcm.specs.declared.Verdict.the-variants.{Accepted, Refused}
 use Rattle.pcm.specs.Frames.{Frame, framesOf}
 use Rattle.pipeline.specs.declared.Pipeline.{Pipeline}
 use Rattle.block.specs.BlockCall.{shorter}
-use Rattle.stream.specs.Calls.{Call, block, reset, finish, Run, afterCall}
+use Rattle.stream.specs.Calls.{Call, block, reset, finish, Run, fresh, afterCall}
 use Rattle.stream.specs.Opened.{kindsIn}
 use Rattle.stream.specs.PlainRoom.{plainVerdict}
 use Rattle.stream.specs.PlainEnd.{plainFinish}
@@ -48,13 +47,13 @@ abbrev pub streamOf : Pipeline → List Call → Stream
 streamOf o calls = streamFrom o (running []) calls
 
 -- ---- one call after another
--- the output joined so far of the stream that the next call falls into: a new one has none
-abbrev pub joinedIn : Stream → List ℕ → List ℕ
-joinedIn (running X) joined = joined
-joinedIn (ended X) joined = []
+-- what was gathered so far in the stream that the next call falls into: a new one has nothing yet
+abbrev pub gatheredIn : {A : Type 0} → Stream → A → A → A
+gatheredIn (running X) gathered nothing = gathered
+gatheredIn (ended X) gathered nothing = nothing
 
 abbrev pub within : Stream → Run → Run
-within S r = record { chain = r .chain; joined = joinedIn S (r .joined) }
+within S r = record { chain = r .chain; joined = gatheredIn S (r .joined) []; clipped = gatheredIn S (r .clipped) 0 }
 
 abbrev pub afterCalls : Pipeline → Stream → Run → List Call → Run
 afterCalls o S r [] = r
@@ -62,4 +61,4 @@ afterCalls o S r (call ∷ calls) = afterCalls o (afterFeeding o (fed S) call) (
 
 -- the calls on the chain o
 abbrev pub runOf : Pipeline → List Call → Run
-runOf o calls = afterCalls o (running []) (record { chain = o; joined = [] }) calls
+runOf o calls = afterCalls o (running []) (fresh o) calls

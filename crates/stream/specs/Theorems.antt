@@ -17,7 +17,7 @@ use Rattle.stream.specs.Opened.{FreshlyOpened, kindsIn}
 use Rattle.pipeline.specs.laws.Opening.{zero-not-one}
 use Rattle.stream.specs.laws.Opening.{stages-opened, stages-chain}
 use Rattle.pcm.specs.Samples.{All, Bytes}
-use Rattle.stream.specs.Calls.{Call, Lent, Run}
+use Rattle.stream.specs.Calls.{Call, Lent, Run, fresh}
 use Rattle.stream.specs.Stream.{running, fed, within, streamOf, runOf}
 use Rattle.stream.specs.FromChain.{Since}
 use Rattle.stream.specs.laws.FromChain.{begun}
@@ -111,7 +111,7 @@ module _ (f : PcmFormat) (recipe : List ℕ) (h : openCall f recipe .verdict ≡
       still-legal e room three
 
   -- with no frames since opening, the last reset or the last accepted finish, a finish is 'nothing yet' and alters nothing, whatever the halves
-  pub nothing-to-finish : fed (streamOf o calls) ≡ [] → (a b : List ℕ) → finishCall c a b ≡ record { chain = c; answer = finish.NothingYet; a = a; b = b }
+  pub nothing-to-finish : fed (streamOf o calls) ≡ [] → (a b : List ℕ) → finishCall c a b ≡ record { chain = c; answer = finish.NothingYet 0; a = a; b = b }
   nothing-to-finish e a b =
       let s : stagesOf c ≡ stagesOf o = next-call .moved .stages ∙ ap (chainNext (stagesOf o)) e ∙ chain-next-nil (stagesOf o) in
       nothing-due c still-legal (s ∙ opened-chain f recipe h .silent ∙ ap (map stageClear) (sym s)) a b
@@ -122,15 +122,15 @@ pub blocks-counted : (f : PcmFormat) (recipe : List ℕ) → openCall f recipe .
 unfolding heldCount
 blocks-counted f recipe h calls lent =
     let w : FreshlyOpened (openCall f recipe .chain) = opened-chain f recipe h in
-    counted-calls (openCall f recipe .chain) w (running []) (record { chain = openCall f recipe .chain; joined = [] }) calls 0 (begun (openCall f recipe .chain) (w .places)) lent (open-counters f recipe .0)
+    counted-calls (openCall f recipe .chain) w (running []) (fresh (openCall f recipe .chain)) calls 0 (begun (openCall f recipe .chain) (w .places)) lent (open-counters f recipe .0)
     ∙ ap heldCount (zero-add (acceptedBlocks (openCall f recipe .chain) calls))
 
 -- `empty_blocks` grows with each block that answers 'nothing yet'
 pub empty-blocks-counted : (f : PcmFormat) (recipe : List ℕ) (calls : List Call)
-    → runOf (openCall f recipe .chain) calls .chain .«empty_blocks» ≡ heldCount (nothingFrom (record { chain = openCall f recipe .chain; joined = [] }) calls)
+    → runOf (openCall f recipe .chain) calls .chain .«empty_blocks» ≡ heldCount (nothingFrom (fresh (openCall f recipe .chain)) calls)
 unfolding heldCount
 empty-blocks-counted f recipe calls =
-    let r : Run = record { chain = openCall f recipe .chain; joined = [] } in
+    let r : Run = fresh (openCall f recipe .chain) in
     nothing-calls (openCall f recipe .chain) (running []) r r calls 0 refl (open-counters f recipe .1) ∙ ap heldCount (zero-add (nothingFrom r calls))
 
 -- ---- the stage with i stages before it delivers what its definition makes of what it has received

@@ -1,4 +1,4 @@
--- Demand 3 (document 01, 'The whole stream'; document 02, Q-1): a single claim about every list of block, reset and finish calls on a freshly
+-- Demand 3 (document 01, 'The whole stream'; document 02, Q-1 and Q-2): a single claim about every list of block, reset and finish calls on a freshly
 -- opened chain. Definitions only.
 use mathlib.Core.Path.{_≡_}
 use mathlib.Core.List.{List, _∷_}
@@ -17,6 +17,7 @@ use Rattle.finish.specs.FinishCall.{finishVerdict}
 use Rattle.stream.specs.Calls.{Run}
 use Rattle.stream.specs.Opened.{kindsIn}
 use Rattle.stream.specs.PlainChain.{plainOut, plainState, receivedBy, deliveredBy}
+use Rattle.stream.specs.PlainClipped.{plainClips, plainEndClips}
 use Rattle.stream.specs.PlainRoom.{plainVerdict}
 use Rattle.stream.specs.PlainEnd.{plainEnd, plainFinish, receivedAtEnd, deliveredAtEnd}
 use Rattle.stream.specs.Resamplers.{Resampled, ResampledToEnd}
@@ -33,9 +34,12 @@ use Rattle.stream.specs.Stream.{Stream, running, ended, fed}
 --   frames      what the stage that i stages stand before has received has one sample of 16 bits for each channel
 --   resamplers  'A resampler of unequal rates that has received T frames delivers, in order, each output k ..', for each one in the
 --               chain, i stages standing before it: how many frames, and each sample by 'Output k's neighbours' and 'the line there'
+--   clipped     document 02: the counts that accepted calls answered are 'the sum over its stages', and add 'up equally over any cutting':
+--               each stage's count over all that it has received
 pub record RunningStream (o : Pipeline) (X : List Frame) (r : Run) : Type 0 where
   pub output : r .joined ≡ bytesOf (plainOut (kindsIn o) X)
   pub state : stagesOf (r .chain) ≡ plainState (kindsIn o) X
+  pub clipped : r .clipped ≡ plainClips (kindsIn o) X
   pub frames : (i : ℕ) → FramesOf (formatLeaving (o .format) (take i (stagesOf o)) .channels) (receivedBy i (kindsIn o) X)
   pub resamplers : (i : ℕ) (s : LinearResampler) (later : List StageKind) → drop i (kindsIn o) ≡ kind.Resample s ∷ later → (s .«in_rate» ≡ s .«out_rate» → ⊥)
       → Resampled s (receivedBy i (kindsIn o) X) (deliveredBy i (kindsIn o) X)
@@ -47,9 +51,11 @@ pub record RunningStream (o : Pipeline) (X : List Frame) (r : Run) : Type 0 wher
 --   frames      'That frame runs on through the later stages before they finish in turn': what each of them has then received
 --   resamplers  'With T frames received, T at least 1, such a resampler has then delivered floor((T - 1) * out / in) + 1 in all': how many,
 --               and each sample; the last one's 'value is that last frame, which alone stands for both neighbours and the line'
+--   clipped     the finish's count included, over all that each stage has then received
 pub record EndedStream (o : Pipeline) (X : List Frame) (r : Run) : Type 0 where
   pub output : r .joined ≡ bytesOf (plainEnd (kindsIn o) X)
   pub state : stagesOf (r .chain) ≡ stagesOf o
+  pub clipped : r .clipped ≡ plainEndClips (kindsIn o) X
   pub frames : (i : ℕ) → FramesOf (formatLeaving (o .format) (take i (stagesOf o)) .channels) (receivedAtEnd i (kindsIn o) X)
   pub resamplers : (i : ℕ) (s : LinearResampler) (later : List StageKind) → drop i (kindsIn o) ≡ kind.Resample s ∷ later → (s .«in_rate» ≡ s .«out_rate» → ⊥)
       → ResampledToEnd s (receivedAtEnd i (kindsIn o) X) (deliveredAtEnd i (kindsIn o) X)

@@ -7,6 +7,7 @@ pub mod OneCall
 pub mod Opened
 pub mod Opening
 pub mod PlainChain
+pub mod PlainClipped
 pub mod PlainEnd
 pub mod PlainRoom
 pub mod Resamplers

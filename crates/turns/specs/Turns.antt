@@ -7,11 +7,14 @@ use lib.Dec.{eqb}
 use lib.IntN.{natAbs}
 use lib.ListN.{length, take}
 use Rattle.pcm.specs.declared.PcmFormat.{PcmFormat}
+use Rattle.pcm.specs.Samples.{decode}
 use Rattle.pcm.specs.Frames.{FramesOf, framesOf, written}
 use Rattle.filters.specs.declared.FilterMemory.{FilterMemory}
+use Rattle.filters.specs.declared.Filtered.{Filtered}
 use Rattle.filters.specs.Filters.{FilteredBlock}
 use Rattle.gain.specs.declared.Gain.{Gain}
 use Rattle.gain.specs.Gain.{scaledBytes}
+use Rattle.gain.specs.Clipping.{clippedIn}
 use Rattle.channels.specs.Channels.{stereoBytes, monoBytes}
 use Rattle.dc_block.specs.declared.DcBlock.{DcBlock}
 use Rattle.dc_block.specs.DcBlock.{dcTick}
@@ -24,6 +27,7 @@ use Rattle.resample.specs.Resample.{resampled, stateAfter}
 use Rattle.resample.specs.Stage.{Ready, Processed}
 use Rattle.stage.specs.declared.SoundMemory.{SoundMemory}
 use Rattle.stage.specs.declared.Stage.{Stage}
+use Rattle.stage.specs.Stages.{stageClipped}
 use Rattle.stage.specs.Rooms.{Served, Serves}
 
 -- ---- an accepted block
@@ -63,8 +67,8 @@ pub record TurnDoes (i n : ℕ) (block : List ℕ) (before after : Halves) (Does
 abbrev pub GainAsks : Gain → List ℕ → List ℕ → Type 0
 GainAsks g source target = (length source % 2 ≡ 0) × (length source ≤ length target) × (natAbs (g .q15) ≤ 33554432)
 
-abbrev pub GainDoes : Gain → List ℕ → List ℕ → List ℕ → Type 0
-GainDoes g source before after = after ≡ written (scaledBytes (g .q15) source) before
+abbrev pub GainDoes : Gain → ℕ → List ℕ → List ℕ → List ℕ → Type 0
+GainDoes g clipped source before after = (after ≡ written (scaledBytes (g .q15) source) before) × (clipped ≡ clippedIn (g .q15) (decode source))
 
 abbrev pub StereoAsks : List ℕ → List ℕ → Type 0
 StereoAsks source target = (length source % 2 ≡ 0) × (length source * 2 ≤ length target)
@@ -84,17 +88,18 @@ ResampleAsks r state channels source target = Ready channels (r .«in_r») (r .�
 abbrev pub ResampleDoes : LinearResampler → ResamplerState → ℕ → Resampled → List ℕ → List ℕ → List ℕ → Type 0
 ResampleDoes r state channels t source before after = Processed (resampled r state (framesOf channels source)) (stateAfter r state (framesOf channels source)) before after t
 
-abbrev pub DcDoes : DcBlock → ℕ → FilterMemory → FilterMemory → List ℕ → List ℕ → List ℕ → Type 0
-DcDoes d channels filter next source before after = FilteredBlock (dcTick (d .r)) channels filter source before after next
+abbrev pub DcDoes : DcBlock → ℕ → FilterMemory → Filtered → List ℕ → List ℕ → List ℕ → Type 0
+DcDoes d channels filter r source before after = FilteredBlock (dcTick (d .r)) channels filter source before after r
 
-abbrev pub BiquadDoes : Biquad → ℕ → FilterMemory → FilterMemory → List ℕ → List ℕ → List ℕ → Type 0
-BiquadDoes f channels filter next source before after = FilteredBlock (biquadTick (f .coefficients)) channels filter source before after next
+abbrev pub BiquadDoes : Biquad → ℕ → FilterMemory → Filtered → List ℕ → List ℕ → List ℕ → Type 0
+BiquadDoes f channels filter r source before after = FilteredBlock (biquadTick (f .coefficients)) channels filter source before after r
 
 -- ---- a stage of any kind
 -- it asks for frames of the format that reaches it, and the room that it wants
 abbrev pub Takes : PcmFormat → Stage → List ℕ → List ℕ → Type 0
 Takes f s source target = Served f s source target × FramesOf (f .channels) (framesOf (f .channels) source)
 
--- it makes of them what its definition says, and keeps the memory that it says
-abbrev pub Makes : PcmFormat → Stage → SoundMemory → ℕ → List ℕ → List ℕ → List ℕ → Type 0
-Makes f s memory len source before after = Serves f s (record { kind = s .kind; memory = memory }) (framesOf (f .channels) source) len before after
+-- it makes of them what its definition says, keeps the memory that it says, and holds back as many samples as it says
+pub record Makes (f : PcmFormat) (s : Stage) (memory : SoundMemory) (len clipped : ℕ) (source before after : List ℕ) : Type 0 where
+  pub serves : Serves f s (record { kind = s .kind; memory = memory }) (framesOf (f .channels) source) len before after
+  pub holds : clipped ≡ stageClipped s (framesOf (f .channels) source)

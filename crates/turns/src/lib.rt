@@ -8,6 +8,7 @@ ghost use Rattle.turns.specs.Turns.{halves, evenSource, TurnAsks, TurnDo
 use biquad::Biquad;
 use dc_block::DcBlock;
 use filters::FilterMemory;
+use filters::Filtered;
 use gain::Gain;
 use pcm::PcmFormat;
 use rates::LinearResampler;
@@ -17,10 +18,11 @@ use stage::SoundMemory;
 use stage::Stage;
 use stage::StageKind;
 
-// A stage's memory after its turn, and how many bytes it delivered.
+// A stage's memory after its turn, how many bytes it delivered, and how many samples it held back.
 pub struct Applied {
     pub memory: SoundMemory,
     pub len: usize,
+    pub clipped: usize,
 }
 
 // What a stage with an even i reads.
@@ -31,15 +33,14 @@ fn even_source<'a>(i: usize, n: usize, block: &'a [u8], b: &'a [u8]) -> &'a [u8]
     if i == 0 { block } else { &b[..n] }
 }
 
-fn gain_turn(g: Gain, i: usize, n: usize, block: &[u8], a: &mut [u8], b: &mut [u8])
+fn gain_turn(g: Gain, i: usize, n: usize, block: &[u8], a: &mut [u8], b: &mut [u8]) -> usize
     requires { ⌜ TurnAsks i n (now block) (halves (now a) (now b)) (GainAsks g) ⌝ }
-    ensures { λ _. ⌜ TurnDoes i n (now (block .entry)) (halves (now (a .entry)) (now (b .entry))) (halves (now (a .exit)) (now (b .exit))) (GainDoes g) ⌝ }
+    ensures { λ clipped. ⌜ TurnDoes i n (now (block .entry)) (halves (now (a .entry)) (now (b .entry))) (halves (now (a .exit)) (now (b .exit))) (GainDoes g clipped) ⌝ }
 {
     if i % 2 == 0 {
-        g.process(even_source(i, n, block, b), a);
-        return;
+        return g.process(even_source(i, n, block, b), a);
     }
-    g.process(&a[..n], b);
+    g.process(&a[..n], b)
 }
 
 fn stereo_turn(i: usize, n: usize, block: &[u8], a: &mut [u8], b: &mut [u8])
@@ -92,9 +93,9 @@ fn dc_turn(
     block: &[u8],
     a: &mut [u8],
     b: &mut [u8],
-) -> FilterMemory
+) -> Filtered
     requires { ⌜ TurnAsks i n (now block) (halves (now a) (now b)) (FilterBlock channels) ⌝ }
-    ensures { λ m. ⌜ TurnDoes i n (now (block .entry)) (halves (now (a .entry)) (now (b .entry))) (halves (now (a .exit)) (now (b .exit))) (DcDoes d channels filter m) ⌝ }
+    ensures { λ r. ⌜ TurnDoes i n (now (block .entry)) (halves (now (a .entry)) (now (b .entry))) (halves (now (a .exit)) (now (b .exit))) (DcDoes d channels filter r) ⌝ }
 {
     if i % 2 == 0 {
         return d.process(even_source(i, n, block, b), a, channels, filter);
@@ -111,9 +112,9 @@ fn biquad_turn(
     block: &[u8],
     a: &mut [u8],
     b: &mut [u8],
-) -> FilterMemory
+) -> Filtered
     requires { ⌜ TurnAsks i n (now block) (halves (now a) (now b)) (FilterBlock channels) ⌝ }
-    ensures { λ m. ⌜ TurnDoes i n (now (block .entry)) (halves (now (a .entry)) (now (b .entry))) (halves (now (a .exit)) (now (b .exit))) (BiquadDoes f channels filter m) ⌝ }
+    ensures { λ r. ⌜ TurnDoes i n (now (block .entry)) (halves (now (a .entry)) (now (b .entry))) (halves (now (a .exit)) (now (b .exit))) (BiquadDoes f channels filter r) ⌝ }
 {
     if i % 2 == 0 {
         return f.process(even_source(i, n, block, b), a, channels, filter);
@@ -121,7 +122,7 @@ fn biquad_turn(
     f.process(&a[..n], b, channels, filter)
 }
 
-// The turn of a stage of any kind: what it makes stands at the front of its half.
+// The turn of a stage of any kind: what it makes stands at the front of its half. The channel stages and the resampler hold nothing back.
 pub fn turn(
     format: PcmFormat,
     s: Stage,
@@ -132,7 +133,7 @@ pub fn turn(
     b: &mut [u8],
 ) -> Applied
     requires { ⌜ TurnAsks i n (now block) (halves (now a) (now b)) (Takes format s) ⌝ }
-    ensures { λ r. ⌜ TurnDoes i n (now (block .entry)) (halves (now (a .entry)) (now (b .entry))) (halves (now (a .exit)) (now (b .exit))) (Makes format s (r .memory) (r .len)) ⌝ }
+    ensures { λ r. ⌜ TurnDoes i n (now (block .entry)) (halves (now (a .entry)) (now (b .entry))) (halves (now (a .exit)) (now (b .exit))) (Makes format s (r .memory) (r .len) (r .clipped)) ⌝ }
 {
     let kind = s.kind;
     let memory = s.memory;
@@ -141,16 +142,28 @@ pub fn turn(
     let channels = format.channels as usize;
     match kind {
         StageKind::Gain(g) => {
-            gain_turn(g, i, n, block, a, b);
-            Applied { memory, len: n }
+            let clipped = gain_turn(g, i, n, block, a, b);
+            Applied {
+                memory,
+                len: n,
+                clipped,
+            }
         }
         StageKind::MonoToStereo => {
             stereo_turn(i, n, block, a, b);
-            Applied { memory, len: n * 2 }
+            Applied {
+                memory,
+                len: n * 2,
+                clipped: 0,
+            }
         }
         StageKind::StereoToMono => {
             mono_turn(i, n, block, a, b);
-            Applied { memory, len: n / 2 }
+            Applied {
+                memory,
+                len: n / 2,
+                clipped: 0,
+            }
         }
         StageKind::Resample(r) => {
             let held = stage::held_samples(resampler);
@@ -159,20 +172,25 @@ pub fn turn(
             Applied {
                 memory: SoundMemory { filter, resampler },
                 len: t.frames * (channels * 2),
+                clipped: 0,
             }
         }
         StageKind::DcBlock(d) => {
-            let filter = dc_turn(d, filter, channels, i, n, block, a, b);
+            let t = dc_turn(d, filter, channels, i, n, block, a, b);
+            let filter = t.memory;
             Applied {
                 memory: SoundMemory { filter, resampler },
                 len: n,
+                clipped: t.clipped,
             }
         }
         StageKind::Biquad(f) => {
-            let filter = biquad_turn(f, filter, channels, i, n, block, a, b);
+            let t = biquad_turn(f, filter, channels, i, n, block, a, b);
+            let filter = t.memory;
             Applied {
                 memory: SoundMemory { filter, resampler },
                 len: n,
+                clipped: t.clipped,
             }
         }
     }

@@ -4,7 +4,7 @@ use mathlib.Core.Bool.{true}
 use mathlib.Core.List.{List}
 use Prim.Native.Nat.{ℕ, _+_, _*_, _≤_, _<_}
 use native.Mathlib.Omega.{arith}
-use lib.ListN.{length, getD, set}
+use lib.ListN.{length, take, getD, set}
 use lib.Seq.{sets}
 use Rattle.pcm.specs.declared.PcmFormat.{PcmFormat}
 use Rattle.pcm.specs.Samples.{Bytes}
@@ -12,17 +12,17 @@ use Rattle.pcm.specs.Frames.{Frame, framesOf}
 use Rattle.stage.specs.declared.Stage.{Stage}
 use Rattle.stage.specs.declared.StageKind.{StageKind}
 use Rattle.stage.specs.declared.SoundMemory.{SoundMemory}
-use Rattle.stage.specs.Stages.{stageNext, formatAfter}
-use Rattle.stage.specs.Rooms.{Serves}
+use Rattle.stage.specs.Stages.{stageNext, stageClipped, formatAfter}
 use Rattle.pipeline.specs.declared.Pipeline.{Pipeline}
 use Rattle.answers.specs.declared.Answer.{Answer}
-use Rattle.turns.specs.Turns.{Halves, halves, sourceAt, TurnAsks, TurnDoes, Takes}
+use Rattle.turns.specs.Turns.{Halves, halves, sourceAt, TurnAsks, TurnDoes, Takes, Makes}
 use Rattle.answers.specs.Answers.{countedUp, lastHalf, outputAnswer, shorterOf, countedIf, unstaged, nextStage}
-use Rattle.block.specs.BlockCall.{accepted, shorter}
+use Rattle.block.specs.Chain.{chainClipped}
+use Rattle.block.specs.BlockCall.{accepted, shorter, blockClipped}
 use Rattle.block.specs.Turns.{Accepts}
 use Rattle.block.specs.laws.Turns.{Ended}
 use Rattle.stage.specs.laws.Places.{noStage}
-use Rattle.block.specs.laws.Stages.{withStages, Plays, turn-asks, stored, at-end, plays-first, copy-room, length-first}
+use Rattle.block.specs.laws.Stages.{withStages, Plays, turn-asks, sum-fits, stored, at-end, clips-end, plays-first, copy-room, length-first}
 use Rattle.block.specs.laws.Reaching.{shorter-a}
 use Rattle.block.specs.laws.Concluding.{concludes-accepted}
 use Rattle.stage_words.specs.Layout.{heldAt, heldWords, word}
@@ -46,37 +46,43 @@ module _ (w : List ℕ) (i : ℕ) (k : StageKind) (m : SoundMemory) (ek : k ≡ 
   pub in-chain : i < 8 → getD (chainAt w .stages) i noStage ≡ read
   in-chain l = stage-of-eight w i noStage l ∙ sym read-is
 
-  module _ (old : List ℕ) (count : ℕ) (format : PcmFormat) (block : List ℕ) (before : Halves) (short : ℕ) (f : PcmFormat) (n : ℕ) (h : Halves)
-      (p : Plays (chainAt old) count format block before short (chainAt w) f n i h) (more : i < count) where
+  module _ (old : List ℕ) (count : ℕ) (format : PcmFormat) (block : List ℕ) (before : Halves) (short : ℕ) (f : PcmFormat) (n : ℕ) (h : Halves) (clipped : ℕ)
+      (p : Plays (chainAt old) count format block before short (chainAt w) f n i h clipped) (more : i < count) where
     here : getD (chainAt w .stages) i noStage ≡ read
     here = in-chain (omega (arith, p .few))
 
     -- what a turn asks
     pub asks-at : TurnAsks i n block h (Takes f read)
-    asks-at = subst (λ (s : Stage). TurnAsks i n block h (Takes f s)) here (turn-asks (chainAt old) count format block before short (chainAt w) f n i h p more)
+    asks-at = subst (λ (s : Stage). TurnAsks i n block h (Takes f s)) here (turn-asks (chainAt old) count format block before short (chainAt w) f n i h clipped p more)
+
+    -- the sum of what was held back fits
+    pub sum-at : {held : ℕ} → held ≡ stageClipped read (framesOf (f .channels) (sourceAt i n block h)) → clipped + held ≤ 38400000000000
+    sum-at {held} q =
+        sum-fits (chainAt old) count format block before short (chainAt w) f n i h clipped p more
+        (subst (λ (s : Stage). held ≡ stageClipped s (framesOf (f .channels) (sourceAt i n block h))) (sym here) q)
 
     -- the stage has had its turn, and what its kind remembers was written
-    module _ (small : SmallKind k) (phase : m .resampler .phase < 4294967296) (long : 152 ≤ length w) (memory : SoundMemory) (len : ℕ) (g : PcmFormat) (h′ : Halves)
-        (t : TurnDoes i n block h h′ (λ (source before after : List ℕ). Serves f read (record { kind = k; memory = memory }) (framesOf (f .channels) source) len before after))
+    module _ (small : SmallKind k) (phase : m .resampler .phase < 4294967296) (long : 152 ≤ length w) (memory : SoundMemory) (len freshly : ℕ) (g : PcmFormat) (h′ : Halves)
+        (t : TurnDoes i n block h h′ (Makes f read memory len freshly))
         (e : g ≡ formatAfter f k) (held : HeldBy k memory) where
       abbrev xs : List Frame
       xs = framesOf (f .channels) (sourceAt i n block h)
 
       phase-next : memory .resampler .phase < 4294967296
-      phase-next = subst (λ (s : Stage). s .memory .resampler .phase < 4294967296) (sym (t .does .keeps)) (small-next read xs (record { kind = small; phase = phase }) .phase)
+      phase-next = subst (λ (s : Stage). s .memory .resampler .phase < 4294967296) (sym (t .does .serves .keeps)) (small-next read xs (record { kind = small; phase = phase }) .phase)
 
       placed : stageAt (sets w (8 + 18 * i + heldAt k) (heldWords k memory)) i ≡ record { kind = k; memory = memory }
       placed =
           subst (λ (s : Stage). stageAt (sets w (8 + 18 * i + heldAt (s .kind)) (heldWords (s .kind) memory)) i ≡ record { kind = s .kind; memory = memory }) (sym read-is)
           (held-written w (8 + 18 * i) (omega (arith, p .few)) memory xs phase-next
-          (subst (λ (s : Stage). record { kind = s .kind; memory = memory } ≡ stageNext s xs) read-is (t .does .keeps))
+          (subst (λ (s : Stage). record { kind = s .kind; memory = memory } ≡ stageNext s xs) read-is (t .does .serves .keeps))
           (subst (λ (s : Stage). HeldBy (s .kind) memory) read-is held))
 
       pub plays-next : (w′ : List ℕ) → w′ ≡ sets w (8 + 18 * i + heldAt k) (heldWords k memory) → (j : ℕ) → j ≡ nextStage i count len
-          → Plays (chainAt old) count format block before short (chainAt w′) g len j h′
+          → Plays (chainAt old) count format block before short (chainAt w′) g len j h′ (clipped + freshly)
       plays-next w′ q j r =
-          stored (chainAt old) count format block before short (chainAt w) f n i h p more memory len g h′
-          (subst (λ (s : Stage). TurnDoes i n block h h′ (λ (source before after : List ℕ). Serves f s (record { kind = s .kind; memory = memory }) (framesOf (f .channels) source) len before after)) (sym here) t)
+          stored (chainAt old) count format block before short (chainAt w) f n i h clipped p more memory len freshly g h′
+          (subst (λ (s : Stage). TurnDoes i n block h h′ (Makes f s memory len freshly)) (sym here) t)
           (subst (λ (s : Stage). g ≡ formatAfter f (s .kind)) (sym here) e)
           j r (chainAt w′)
           (ap chainAt q
@@ -118,15 +124,15 @@ module _ (w block a b a₀ : List ℕ) (count : ℕ) (own : PcmFormat) (accepts 
   pub same-long : length a₀ ≡ length a
   same-long = length-first c block a b accepts (eight w) bytes a₀ (shorter a b) copied refl
 
-  pub plays-begin : (len : ℕ) → len ≡ length block → Plays c count own block (halves a₀ b) (shorter a₀ b) c own len 0 (halves a₀ b)
+  pub plays-begin : (len : ℕ) → len ≡ length block → Plays c count own block (halves a₀ b) (shorter a₀ b) c own len 0 (halves a₀ b) 0
   plays-begin len el =
-      subst (λ (n : ℕ). Plays c n own block (halves a₀ b) (shorter a₀ b) c own len 0 (halves a₀ b)) (sym same-count)
-      (subst (λ (f : PcmFormat). Plays c (c .count) f block (halves a₀ b) (shorter a₀ b) c f len 0 (halves a₀ b)) (sym same-format)
-      (subst (λ (n : ℕ). Plays c (c .count) (c .format) block (halves a₀ b) (shorter a₀ b) c (c .format) n 0 (halves a₀ b)) (sym el)
+      subst (λ (n : ℕ). Plays c n own block (halves a₀ b) (shorter a₀ b) c own len 0 (halves a₀ b) 0) (sym same-count)
+      (subst (λ (f : PcmFormat). Plays c (c .count) f block (halves a₀ b) (shorter a₀ b) c f len 0 (halves a₀ b) 0) (sym same-format)
+      (subst (λ (n : ℕ). Plays c (c .count) (c .format) block (halves a₀ b) (shorter a₀ b) c (c .format) n 0 (halves a₀ b) 0) (sym el)
       (plays-first c block a b accepts (eight w) bytes a₀ (shorter a₀ b) copied (ap (λ (n : ℕ). shorterOf n (length b)) same-long))))
 
   -- ---- and past the last: w′ are the words then, and `left` those with the counters
-  module _ (w′ left : List ℕ) (short : ℕ) (f : PcmFormat) (len i : ℕ) (h : Halves) (p : Plays c count own block (halves a₀ b) short (chainAt w′) f len i h) (end : count ≤ i)
+  module _ (w′ left : List ℕ) (short : ℕ) (f : PcmFormat) (len i : ℕ) (h : Halves) (clipped : ℕ) (p : Plays c count own block (halves a₀ b) short (chainAt w′) f len i h clipped) (end : count ≤ i)
       (stood : stands w ≡ true) (moved : Moved w w′) (el : left ≡ sets w′ 3 (counterWords (countedUp (counterAt w′ 3)) (countedIf len (counterAt w′ 5)))) where
     fits : 8 ≤ length w′
     fits = omega (arith, moved .long, stands-long w stood)
@@ -135,16 +141,21 @@ module _ (w block a b a₀ : List ℕ) (count : ℕ) (own : PcmFormat) (accepts 
     ended =
         subst (λ (n : ℕ). Ended (c .stages) n (c .format) block (halves a₀ b) (chainAt w′ .stages) f len h) same-count
         (subst (λ (g : PcmFormat). Ended (c .stages) count g block (halves a₀ b) (chainAt w′ .stages) f len h) same-format
-        (at-end c count own block (halves a₀ b) short (chainAt w′) f len i h p end))
+        (at-end c count own block (halves a₀ b) short (chainAt w′) f len i h clipped p end))
+
+    held-back : clipped ≡ blockClipped c block
+    held-back =
+        clips-end c count own block (halves a₀ b) short (chainAt w′) f len i h clipped p end
+        ∙ ap₂ (λ (n : ℕ) (g : PcmFormat). chainClipped (take n (c .stages)) (framesOf (g .channels) block)) same-count same-format
 
     pub stays : SettingsStay w left
     stays = subst (SettingsStay w) (sym el) (settings-stay w′ _ _ fits w moved)
 
-    pub plays-end : (t : ℕ) (answer : Answer) → answer ≡ outputAnswer f t (lastHalf count) len
+    pub plays-end : (t : ℕ) (answer : Answer) → answer ≡ outputAnswer f t (lastHalf count) len clipped
         → record { chain = chainOfWords left; answer = answer; a = h .a; b = h .b } ≡ accepted (chainOfWords w) t block (halves a b)
     plays-end t answer r =
         ap (λ (d : Pipeline). record { chain = d; answer = answer; a = h .a; b = h .b })
         (stands-chain left (stays-stand w left stood stays) ∙ ap chainAt el ∙ chain-counted w′ _ _ fits)
-        ∙ concludes-accepted c (c .format) t block a b accepts (eight w) bytes a₀ copied (chainAt w′ .stages) f len h ended (chainAt w′) (p .chain) _ _ answer
-        (ap countedUp (sym (counters-at w′ .0))) (ap (countedIf len) (sym (counters-at w′ .1))) (r ∙ ap (λ (n : ℕ). outputAnswer f t (lastHalf n) len) same-count)
+        ∙ concludes-accepted c (c .format) t block a b accepts (eight w) bytes a₀ copied (chainAt w′ .stages) f len h ended clipped held-back (chainAt w′) (p .chain) _ _ answer
+        (ap countedUp (sym (counters-at w′ .0))) (ap (countedIf len) (sym (counters-at w′ .1))) (r ∙ ap (λ (n : ℕ). outputAnswer f t (lastHalf n) len clipped) same-count)
         ∙ ap (λ (d : Pipeline). accepted d t block (halves a b)) (sym (stands-chain w stood))

@@ -16,7 +16,7 @@ use Rattle.answers.specs.declared.Scratch.the-variants as scratch
 use Rattle.questions.specs.declared.Question.the-variants.{Block, AnyState}
 use Rattle.questions.specs.declared.Walk.{Walk}
 use Rattle.turns.specs.Turns.{Halves}
-use Rattle.block.specs.BlockCall.{Result, blockVerdict, shorter, outputBytes, accepted, scratchAnswer, scratchBytes}
+use Rattle.block.specs.BlockCall.{Result, blockVerdict, shorter, outputBytes, blockClipped, accepted, scratchAnswer, scratchBytes}
 use Rattle.answers.specs.Answers.{lastHalf}
 use Rattle.pipeline.specs.WritingBack.{stagesOf}
 use Rattle.pipeline.specs.Reset.{formatLeaving}
@@ -69,6 +69,6 @@ pub words-accepted : (c d : Pipeline) (t : ℕ) (block : List ℕ) (h : Halves) 
 unfolding accepted
 words-accepted c d t block h r a b w w′ e stay = subst (λ (x : Answer). WordsAfter x w w′) (sym (ap (λ (x : Result). x .answer) e)) (go (eqb (outputBytes c block) 0))
   where
-    go : (z : Bool) → WordsAfter (cond z answer.NothingYet (answer.Output (formatLeaving (c .format) (stagesOf c)) t (lastHalf (c .count)) (outputBytes c block))) w w′
+    go : (z : Bool) → WordsAfter (cond z (answer.NothingYet (blockClipped c block)) (answer.Output (formatLeaving (c .format) (stagesOf c)) t (lastHalf (c .count)) (outputBytes c block) (blockClipped c block))) w w′
     go true = stay
     go false = stay

@@ -26,8 +26,8 @@ pub record SettingsStay (w w′ : List ℕ) : Type 0 where
 
 -- a refusal leaves every word
 abbrev pub WordsAfter : Answer → List ℕ → List ℕ → Type 0
-WordsAfter (answer.Output f timestamp half len) w w′ = SettingsStay w w′
-WordsAfter answer.NothingYet w w′ = SettingsStay w w′
+WordsAfter (answer.Output f timestamp half len clipped) w w′ = SettingsStay w w′
+WordsAfter (answer.NothingYet clipped) w w′ = SettingsStay w w′
 WordsAfter (answer.Refused e) w w′ = w′ ≡ w
 
 -- a walk that asked along the stages, and the bounds of its figures

@@ -83,6 +83,7 @@ fn play(words: &mut [u32], timestamp: u64, sound: &[u8], a: &mut [u8], b: &mut [
     answers::copy_unstaged(count, sound, a);
     let mut reaching = own;
     let mut len = sound.len();
+    let mut clipped: usize = 0;
     let mut i: usize = 0;
     while i < count {
         let kind = chain_words::kind_at(words, i);
@@ -92,11 +93,12 @@ fn play(words: &mut [u32], timestamp: u64, sound: &[u8], a: &mut [u8], b: &mut [
         let memory = t.memory;
         chain_words::put_held_at(words, i, kind, memory);
         len = t.len;
+        clipped += t.clipped;
         reaching = stage::format_after(reaching, kind);
         i = answers::next_stage(i, count, len);
     }
     count_block(words, len);
-    answers::answered(reaching, timestamp, count, len)
+    answers::answered(reaching, timestamp, count, len, clipped)
 }
 
 // The block call. The output, where there is one, stands at the front of the half named, and the words stand for the chain afterwards.

@@ -24,7 +24,7 @@ use Rattle.questions.specs.Walk.{begun, walked}
 use Rattle.turns.specs.Turns.{Halves, halves}
 use Rattle.block.specs.BlockCall.{legal, shorter}
 use Rattle.block.specs.laws.Bounds.{legal-parts}
-use Rattle.finish.specs.FinishCall.{FinishResult, finishBytes, finishVerdict, finished, finishConcluded, finishCall}
+use Rattle.finish.specs.FinishCall.{FinishResult, finishBytes, finishClipped, finishVerdict, finished, finishConcluded, finishCall}
 use Rattle.finish.specs.Turns.{endFrom, Finishes}
 use Rattle.finish.specs.laws.Stepping.{end-is}
 use Rattle.stage_words.specs.Layout.{word}
@@ -80,7 +80,7 @@ module _ (c : Pipeline) (h : Halves) where
   finished-outcome w = go (eqb (finishBytes c) 0)
     where
       go : (t : Bool) → soundWords w (resetCall (chainOfWords w))
-          ≡ finishWords (finishTold (cond t answer.NothingYet (answer.Output (formatLeaving (c .format) (stagesOf c)) (lastHalf (c .count)) (finishBytes c))) .outcome) w
+          ≡ finishWords (finishTold (cond t (answer.NothingYet (finishClipped c)) (answer.Output (formatLeaving (c .format) (stagesOf c)) (lastHalf (c .count)) (finishBytes c) (finishClipped c))) .outcome) w
       go true = refl
       go false = refl
 

@@ -1,40 +1,54 @@
-//! The same stream under many cuttings. The joined output, a finish's included, must not depend on the cutting.
+//! The same stream under many cuttings. The joined output and the samples clipped in all, a finish's included, must not depend on the
+//! cutting.
 
 use super::{Random, Session, ample_block, ample_finish, block_over, frames_that_fit};
+use crate::model::Answer;
 use crate::protocol::LONGEST;
 use crate::recipe::{self, Recipe};
 use crate::source::Format;
 
-/// Feeds a stream in blocks of the frames given and joins what comes out.
-fn joined(session: &mut Session, random: &mut Random, stream: &[u8], blocks: &[usize]) -> Vec<u8> {
+/// What the calls of a stream came to.
+#[derive(Default, PartialEq)]
+pub struct Joined {
+    out: Vec<u8>,
+    pub clipped: u64,
+}
+
+impl Joined {
+    fn add(&mut self, answer: Answer) {
+        assert_eq!(answer.number, 0, "a call within its room was refused by the source");
+        self.out.extend(answer.sound.into_iter().flat_map(|sound| sound.bytes));
+        self.clipped += answer.clipped;
+    }
+}
+
+/// Feeds a stream in blocks of the frames given.
+fn joined(session: &mut Session, random: &mut Random, stream: &[u8], blocks: &[usize]) -> Joined {
     let frame = session.chain.format.frame();
     let mut rest = stream;
-    let mut out = Vec::new();
+    let mut joined = Joined::default();
     for frames in blocks {
         let (sound, after) = rest.split_at(frames * frame);
         rest = after;
-        let answer = ample_block(session, random, sound);
-        assert_eq!(answer.number, 0, "a block within its room was refused by the source");
-        out.extend(answer.sound.into_iter().flat_map(|sound| sound.bytes));
+        joined.add(ample_block(session, random, sound));
     }
-    out
+    joined
 }
 
 /// The same, and what a finish adds; a reset where a script cannot lend the halves for it.
-fn joined_to_end(session: &mut Session, random: &mut Random, stream: &[u8], blocks: &[usize]) -> Vec<u8> {
-    let mut out = joined(session, random, stream, blocks);
+fn joined_to_end(session: &mut Session, random: &mut Random, stream: &[u8], blocks: &[usize]) -> Joined {
+    let mut joined = joined(session, random, stream, blocks);
     if session.chain.room_at_end() > LONGEST {
         session.reset();
-        return out;
+        return joined;
     }
-    let answer = ample_finish(session, random);
-    assert_eq!(answer.number, 0, "a finish within its room was refused");
-    out.extend(answer.sound.into_iter().flat_map(|sound| sound.bytes));
-    out
+    joined.add(ample_finish(session, random));
+    joined
 }
 
-fn same_joined(session: &Session, whole: &[u8], cut: &[u8], blocks: &[usize]) {
-    assert!(whole == cut, "the output depends on the cutting {blocks:?} of {:02X?}", session.chain.recipe);
+fn same_joined(session: &Session, whole: &Joined, cut: &Joined, blocks: &[usize]) {
+    assert!(whole.out == cut.out, "the output depends on the cutting {blocks:?} of {:02X?}", session.chain.recipe);
+    assert_eq!(whole.clipped, cut.clipped, "the count depends on the cutting {blocks:?} of {:02X?}", session.chain.recipe);
 }
 
 /// The blocks of a cutting whose bit i tells whether frames i and i + 1 are parted.
@@ -67,19 +81,26 @@ pub fn finished(session: &mut Session, random: &mut Random) {
         }
         for frames in 1..=8usize {
             let stream = random.sound(frames * recipe.format.frame());
-            let whole = joined_to_end(session, random, &stream, &[frames]);
-            for cutting in 1..1usize << (frames - 1) {
-                match cutting % 6 {
-                    0 => session.reset(),
-                    3 => _ = session.open_recipe(&recipe),
-                    _ => (),
-                }
-                let blocks = blocks_of(cutting, frames);
-                let cut = joined_to_end(session, random, &stream, &blocks);
-                same_joined(session, &whole, &cut, &blocks);
-            }
+            every_cutting(session, random, &recipe, &stream);
         }
     }
+}
+
+/// All cuttings of a stream that ends in a finish, through the recipe of the chain in use; gives what each of them came to.
+pub fn every_cutting(session: &mut Session, random: &mut Random, recipe: &Recipe, stream: &[u8]) -> Joined {
+    let frames = stream.len() / recipe.format.frame();
+    let whole = joined_to_end(session, random, stream, &[frames]);
+    for cutting in 1..1usize << (frames - 1) {
+        match cutting % 6 {
+            0 => session.reset(),
+            3 => _ = session.open_recipe(recipe),
+            _ => (),
+        }
+        let blocks = blocks_of(cutting, frames);
+        let cut = joined_to_end(session, random, stream, &blocks);
+        same_joined(session, &whole, &cut, &blocks);
+    }
+    whole
 }
 
 /// All cuttings of streams of 1 to 8 frames, for each stage kind.
@@ -121,7 +142,7 @@ pub fn long(session: &mut Session, random: &mut Random) {
     for _ in 0..150 {
         let stages = 1 + random.below(8);
         let recipe = recipe::any(random, stages, &mut session.designs);
-        let mut whole: Option<Vec<u8>> = None;
+        let mut whole: Option<Joined> = None;
         let frames = 500 + random.below(3_000);
         let stream = random.sound(frames * recipe.format.frame());
         for _ in 0..3 {

@@ -1,6 +1,7 @@
 //! Families of cases.
 
 mod chains;
+mod clipping;
 mod cuttings;
 mod ends;
 mod finishes;
@@ -37,7 +38,7 @@ const FIXED: [Family; 13] = [
 ];
 
 /// Other cases with every seed.
-const SEEDED: [Family; 13] = [
+const SEEDED: [Family; 23] = [
     ("stages alone", chains::lone),
     ("chains", chains::any),
     ("chains, long blocks", chains::long_blocks),
@@ -51,6 +52,16 @@ const SEEDED: [Family; 13] = [
     ("all samples through filters", samples::filters),
     ("mix_i16", numbers::mix),
     ("numbers", numbers::any),
+    ("clipped by gains", clipping::gains),
+    ("clipped by any gains", clipping::any_gains),
+    ("clipped without exception", clipping::many),
+    ("clipped in mixes", clipping::mixes),
+    ("clipped in rounding", clipping::rounding),
+    ("clipped by steps", clipping::steps),
+    ("clipped by any filters", clipping::wild),
+    ("clipped first and last frames", clipping::waiting),
+    ("clipped under all cuttings", clipping::cut),
+    ("clipped between refusals", clipping::refused),
 ];
 
 pub fn run(session: &mut Session, seed: u64, fixed: bool, timed: bool) {
@@ -64,6 +75,7 @@ pub fn run(session: &mut Session, seed: u64, fixed: bool, timed: bool) {
         session.run();
         session.designs.clear();
         if timed {
+            session.settle();
             println!("{name}: {} answers, {:.1} s", session.tally.answers - answers, start.elapsed().as_secs_f32());
         }
     }

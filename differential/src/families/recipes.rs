@@ -139,8 +139,6 @@ pub fn damaged(session: &mut Session, random: &mut Random) {
         session.open_recipe(&wrong);
         wrong.format.rate = 1 + random.below(384_000) as u32;
         session.open_recipe(&wrong);
-        if session.chain.comparable {
-            feed(session, random, 1 + round);
-        }
+        feed(session, random, 1 + round);
     }
 }

@@ -1,10 +1,10 @@
 //! A sample of scripts, small enough to store, that reaches every command, refusal, outcome and stage kind.
 
 use super::{
-    Random, Session, ample_block, ample_finish, ample_half, any_frames, block_over, chains, ends, finish_over, finishes, numbers, open_any,
-    sound_of,
+    Random, Session, ample_block, ample_finish, ample_half, any_frames, block_over, chains, clipping, ends, finish_over, finishes, numbers,
+    open_any, sound_of,
 };
-use crate::protocol::{BLOCK, COMMANDS, END_MARK, FINISH};
+use crate::protocol::{BLOCK, COMMANDS, END_MARK, FINISH, MIX, ROUND_SAT16, SAT16};
 use crate::recipe;
 use crate::source::Format;
 use std::collections::BTreeSet;
@@ -18,6 +18,7 @@ pub fn gather(session: &mut Session, random: &mut Random) {
     longest_block(session, random);
     any_chains(session, random);
     finishes::few(session, random);
+    clipping::few(session, random);
     damaged(session, random);
     numbers::few(session, random);
     session.script.push(END_MARK);
@@ -117,6 +118,9 @@ fn check(session: &Session, sounded: &BTreeSet<u8>) {
     (1..=10).for_each(|number| assert!(has(&|seen| seen.1 == number), "refusal {number} is not in the sample"));
     for (command, outcome) in [BLOCK, FINISH].into_iter().flat_map(|command| [0, 1, 2].map(|outcome| (command, outcome))) {
         assert!(has(&|seen| seen.0 == command && seen.2 == outcome), "outcome {outcome} of command {command} is not in the sample");
+    }
+    for counted in [(BLOCK, 1), (BLOCK, 2), (FINISH, 1), (FINISH, 2), (MIX, 0), (ROUND_SAT16, 0), (SAT16, 0)] {
+        assert!(session.clipped[&counted] > 0, "nothing is clipped in the sample by command and outcome {counted:?}");
     }
     (1..=6).for_each(|kind| assert!(sounded.contains(&kind), "stage kind {kind} makes no sound in the sample"));
 }

@@ -19,7 +19,7 @@ use Rattle.questions.specs.Walk.{headLegal}
 use Rattle.pcm.specs.laws.Lists.{unmapped}
 use Rattle.block.specs.laws.Asking.{Asks, head-parts, asks-first, asks-fits, asks-next, asks-end, walk-verdict}
 use Rattle.block.specs.laws.Reaching.{shorter-a}
-use Rattle.block.specs.laws.Stages.{next-less, withStages, Plays, turn-asks, stored, stayed, at-end, plays-first, copy-room, length-first}
+use Rattle.block.specs.laws.Stages.{next-less, withStages, Plays, turn-asks, sum-fits, stored, stayed, at-end, clips-end, plays-first, copy-room, length-first}
 use Rattle.block.specs.laws.Concluding.{head-refused, refused-is, concludes}
 use Rattle.block.proofs.Telling.{with-told}
 use Rattle.block.proofs.process.Statement.{statement}
@@ -32,10 +32,10 @@ abbrev μ-loop : tie.MeasureT-loop
 μ-loop format timestamp block a b chain own count size shorter walk₀ i₀ walk i = count - i
 
 abbrev Inv-loop2 : tie.InvT-loop2
-Inv-loop2 timestamp block a₀ b₀ chain₀ count size shorter i₀ reaching₀ len₀ a b chain i reaching len = Plays chain₀ count reaching₀ block (halves a₀ b₀) shorter chain reaching len i (halves a b)
+Inv-loop2 timestamp block a₀ b₀ chain₀ count size shorter i₀ reaching₀ len₀ clipped₀ a b chain i reaching len clipped = Plays chain₀ count reaching₀ block (halves a₀ b₀) shorter chain reaching len i (halves a b) clipped
 
 abbrev μ-loop2 : tie.MeasureT-loop2
-μ-loop2 timestamp block a₀ b₀ chain₀ count size shorter i₀ reaching₀ len₀ a b chain i reaching len = count - i
+μ-loop2 timestamp block a₀ b₀ chain₀ count size shorter i₀ reaching₀ len₀ clipped₀ a b chain i reaching len clipped = count - i
 
 -- ---- where the questions begin
 module _ (c : tie.After-begun Inv-loop μ-loop Inv-loop2 μ-loop2) where
@@ -110,19 +110,24 @@ process-spec = tie.close (tie.spec
     let a = s (b e) .args in
     plays-first (a .t1) (a .block .now) (a .a .now) (a .b .now) (takes e) (eight (b e)) (bytes (b e)) _ _ (c .before .before .copy-unstaged .ensures) (b e .before .shorter-of .ensures))
     (λ c. search needs) (λ c. search needs)
-    (λ c κs. turn-asks _ _ _ _ _ _ _ _ _ _ _ (c .before .before .before .before .loop2 .inv) (c .before .before .before .loop2-test .taken))
-    (λ c κs. search needs) (λ c. search needs) (λ c. search needs) (λ c κs. search needs) (λ c κs. search needs)
+    (λ c κs. turn-asks _ _ _ _ _ _ _ _ _ _ _ _ (c .before .before .before .before .loop2 .inv) (c .before .before .before .loop2-test .taken))
+    (λ c κs. search needs) (λ c. search needs) (λ c. search needs)
     (λ c.
-    let t = c .before .before .before .before .before .before .before .before in
+    let t = c .before .before .before .before .before .before .before in
+    let l = t .before .before .before .before .before in
+    record { fits = omega (arith, sum-fits _ _ _ _ _ _ _ _ _ _ _ _ (l .loop2 .inv) (t .before .before .before .before .loop2-test .taken) (t .turn .ensures .does .holds)) })
+    (λ c κs. search needs) (λ c κs. search needs)
+    (λ c.
+    let t = c .before .before .before .before .before .before .before .before .before in
     let l = t .before .before .before .before .before in
     next-less (l .loop2 .i) (s (b (l .before .before .before .before .before)) .args .t1 .count) (t .turn .result .len) _ (t .before .before .before .before .loop2-test .taken) (c .next-stage .ensures))
     (λ c.
-    let j = c .before .before in
+    let j = c .before .before .before in
     let t = j .before .before .before .before .before .before in
     let l = t .before .before .before .before .before in
     ⊎-elim
-    (λ w. stored _ _ _ _ _ _ _ _ _ _ _ (l .loop2 .inv) (t .before .before .before .before .loop2-test .taken) _ _ _ _ (t .turn .ensures) (c .before .format-after .ensures) _ (c .next-stage .ensures) _ (w .2))
-    (λ w. stayed _ _ _ _ _ _ _ _ _ _ _ (l .loop2 .inv) (t .before .before .before .before .loop2-test .taken) _ _ _ _ (t .turn .ensures) (c .before .format-after .ensures) _ (c .next-stage .ensures) _ (w .1) (sym (j .before .remembers .ensures) ∙ w .0 .left))
+    (λ w. stored _ _ _ _ _ _ _ _ _ _ _ _ (l .loop2 .inv) (t .before .before .before .before .loop2-test .taken) _ _ _ _ _ (t .turn .ensures) (c .before .format-after .ensures) _ (c .next-stage .ensures) _ (w .2))
+    (λ w. stayed _ _ _ _ _ _ _ _ _ _ _ _ (l .loop2 .inv) (t .before .before .before .before .loop2-test .taken) _ _ _ _ _ (t .turn .ensures) (c .before .format-after .ensures) _ (c .next-stage .ensures) _ (w .1) (sym (j .before .remembers .ensures) ∙ w .0 .left))
     (j .if2 .came))
     (λ c κs. search needs) (λ c κs. search needs) (λ c κs. search needs)
     (λ c.
@@ -137,4 +142,4 @@ process-spec = tie.close (tie.spec
     let a = s (b e) .args in
     with-told (a .t1) (a .format) (a .timestamp) (a .block .now) (a .a .now) (a .b .now) _
     (concludes (a .t1) (a .format) (a .timestamp) (a .block .now) (a .a .now) (a .b .now) (takes e) (eight (b e)) (bytes (b e)) _ (l .before .before .before .copy-unstaged .ensures) _ _ _ _
-    (at-end _ _ _ _ _ _ _ _ _ _ _ (l .loop2 .inv) (c .before .before .before .loop2-test .left)) (l .loop2 .chain) (l .loop2 .inv .chain) _ _ _ (c .before .before .count-up .ensures) (c .before .count-empty .ensures) (c .answered .ensures) (accepted e))))
+    (at-end _ _ _ _ _ _ _ _ _ _ _ _ (l .loop2 .inv) (c .before .before .before .loop2-test .left)) _ (clips-end _ _ _ _ _ _ _ _ _ _ _ _ (l .loop2 .inv) (c .before .before .before .loop2-test .left)) (l .loop2 .chain) (l .loop2 .inv .chain) _ _ _ (c .before .before .count-up .ensures) (c .before .count-empty .ensures) (c .answered .ensures) (accepted e))))

@@ -20,7 +20,7 @@ use Rattle.answers.specs.declared.Answer.the-variants as answers
 use Rattle.block.specs.Chain.{chainOut, chainNext}
 use Rattle.pipeline.specs.Reset.{formatLeaving}
 use Rattle.turns.specs.Turns.{Halves, halves}
-use Rattle.block.specs.BlockCall.{blockVerdict, halvesAfter, shorter, countedChain, accepted, concluded, blockCall}
+use Rattle.block.specs.BlockCall.{blockVerdict, halvesAfter, shorter, countedChain, blockClipped, accepted, concluded, blockCall}
 use Rattle.answers.specs.Answers.{countedUp, outputAnswer, lastHalf, unstaged, countedIf}
 use Rattle.pipeline.specs.WritingBack.{stagesOf}
 use Rattle.questions.specs.Walk.{headLegal}
@@ -47,9 +47,9 @@ module _ (c : Pipeline) (format : PcmFormat) (t : ℕ) (block a b : List ℕ) wh
   accepted-call h = sym (ap (λ (v : Verdict). concluded v c t block (record { a = a; b = b })) h)
 
   -- ---- an accepted block
-  same-answer : (f g : PcmFormat) (half : Half) (len : ℕ) → ((len ≡ 0 → ⊥) → f ≡ g) → outputAnswer f t half len ≡ outputAnswer g t half len
-  same-answer f g half zero h = refl
-  same-answer f g half (suc n) h = ap (λ (k : PcmFormat). outputAnswer k t half (suc n)) (h (suc-ne-zero n))
+  same-answer : (f g : PcmFormat) (half : Half) (len clipped : ℕ) → ((len ≡ 0 → ⊥) → f ≡ g) → outputAnswer f t half len clipped ≡ outputAnswer g t half len clipped
+  same-answer f g half zero clipped h = refl
+  same-answer f g half (suc n) clipped h = ap (λ (k : PcmFormat). outputAnswer k t half (suc n) clipped) (h (suc-ne-zero n))
 
   abbrev next : List Stage
   next = chainNext (stagesOf c) (framesOf (c .format .channels) block) ++ drop (c .count) (c .stages)
@@ -62,7 +62,7 @@ module _ (c : Pipeline) (format : PcmFormat) (t : ℕ) (block a b : List ℕ) wh
 
   accepted-is : record {
     chain = countedChain c next size;
-    answer = outputAnswer leaving t (lastHalf (c .count)) size;
+    answer = outputAnswer leaving t (lastHalf (c .count)) size (blockClipped c block);
     a = halvesAfter (stagesOf c) (framesOf (c .format .channels) block) block (halves a b) .a;
     b = halvesAfter (stagesOf c) (framesOf (c .format .channels) block) block (halves a b) .b;
   } ≡ accepted c t block (halves a b)
@@ -70,16 +70,17 @@ module _ (c : Pipeline) (format : PcmFormat) (t : ℕ) (block a b : List ℕ) wh
   accepted-is = refl
 
   module _ (w : Accepts c block a b) (eight : length (c .stages) ≡ 8) (bytes : Bytes block) (a₀ : List ℕ) (u : a₀ ≡ unstaged (c .count) block a)
-      (s : List Stage) (f : PcmFormat) (len : ℕ) (h : Halves) (e : Ended (c .stages) (c .count) (c .format) block (halves a₀ b) s f len h) where
-    played : record { chain = countedChain c s len; answer = outputAnswer f t (lastHalf (c .count)) len; a = h .a; b = h .b } ≡ accepted c t block (halves a b)
+      (s : List Stage) (f : PcmFormat) (len : ℕ) (h : Halves) (e : Ended (c .stages) (c .count) (c .format) block (halves a₀ b) s f len h)
+      (clipped : ℕ) (held : clipped ≡ blockClipped c block) where
+    played : record { chain = countedChain c s len; answer = outputAnswer f t (lastHalf (c .count)) len clipped; a = h .a; b = h .b } ≡ accepted c t block (halves a b)
     played =
-        ap (λ (r : Answer). record { chain = countedChain c s len; answer = r; a = h .a; b = h .b }) (same-answer f leaving (lastHalf (c .count)) len (e .form))
-        ∙ ap₂ (λ (l : List Stage) (n : ℕ). record { chain = countedChain c l n; answer = outputAnswer leaving t (lastHalf (c .count)) n; a = h .a; b = h .b }) (e .keeps) (e .size)
-        ∙ ap (λ (g : Halves). record { chain = countedChain c next size; answer = outputAnswer leaving t (lastHalf (c .count)) size; a = g .a; b = g .b }) (e .halves-are ∙ halves-end c block a b w eight bytes a₀ u)
+        ap (λ (r : Answer). record { chain = countedChain c s len; answer = r; a = h .a; b = h .b }) (same-answer f leaving (lastHalf (c .count)) len clipped (e .form) ∙ ap (outputAnswer leaving t (lastHalf (c .count)) len) held)
+        ∙ ap₂ (λ (l : List Stage) (n : ℕ). record { chain = countedChain c l n; answer = outputAnswer leaving t (lastHalf (c .count)) n (blockClipped c block); a = h .a; b = h .b }) (e .keeps) (e .size)
+        ∙ ap (λ (g : Halves). record { chain = countedChain c next size; answer = outputAnswer leaving t (lastHalf (c .count)) size (blockClipped c block); a = g .a; b = g .b }) (e .halves-are ∙ halves-end c block a b w eight bytes a₀ u)
         ∙ accepted-is
 
     pub concludes-accepted : (chain : Pipeline) → chain ≡ withStages c s → (blocks empties : ℕ) (answer : Answer) → blocks ≡ countedUp (chain .blocks) → empties ≡ countedIf len (chain .«empty_blocks»)
-        → answer ≡ outputAnswer f t (lastHalf (c .count)) len
+        → answer ≡ outputAnswer f t (lastHalf (c .count)) len clipped
         → record { chain = record { stages = chain .stages; count = chain .count; format = chain .format; blocks = blocks; «empty_blocks» = empties }; answer = answer; a = h .a; b = h .b } ≡ accepted c t block (halves a b)
     unfolding withStages
     concludes-accepted chain m blocks empties answer p q r =
@@ -88,6 +89,6 @@ module _ (c : Pipeline) (format : PcmFormat) (t : ℕ) (block a b : List ℕ) wh
         ∙ played
 
     pub concludes : (chain : Pipeline) → chain ≡ withStages c s → (blocks empties : ℕ) (answer : Answer) → blocks ≡ countedUp (chain .blocks) → empties ≡ countedIf len (chain .«empty_blocks»)
-        → answer ≡ outputAnswer f t (lastHalf (c .count)) len → blockVerdict c format (length block) (shorter a b) ≡ Accepted
+        → answer ≡ outputAnswer f t (lastHalf (c .count)) len clipped → blockVerdict c format (length block) (shorter a b) ≡ Accepted
         → record { chain = record { stages = chain .stages; count = chain .count; format = chain .format; blocks = blocks; «empty_blocks» = empties }; answer = answer; a = h .a; b = h .b } ≡ blockCall c format t block a b
     concludes chain m blocks empties answer p q r v = concludes-accepted chain m blocks empties answer p q r ∙ accepted-call v

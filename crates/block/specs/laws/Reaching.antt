@@ -19,14 +19,15 @@ use Rattle.pcm.specs.laws.Frames.{length-bytes, frames-bytes, length-frames, fr
 use Rattle.stage.specs.declared.Stage.{Stage}
 use Rattle.stage.specs.Stages.{stageOut, stageNext, formatAfter}
 use Rattle.stage.specs.laws.Stages.{stage-out-nil}
-use Rattle.stage.specs.Rooms.{stageSuits, framesOut, roomWanted, Served, Serves}
+use Rattle.stage.specs.declared.SoundMemory.{SoundMemory}
+use Rattle.stage.specs.Rooms.{stageSuits, framesOut, roomWanted, Served}
 use Rattle.stage.specs.Theorems.{room-holds-bytes}
 use Rattle.stage.specs.laws.Rooms.{stage-count, channels-after}
 use Rattle.pipeline.specs.declared.Pipeline.{Pipeline}
 use Rattle.block.specs.Chain.{chainOut, chainNext}
 use Rattle.block.specs.laws.Chain.{chain-out-nil, chain-next-nil}
 use Rattle.pipeline.specs.Reset.{formatLeaving}
-use Rattle.turns.specs.Turns.{Halves, halves, sourceAt, targetAt, TurnAsks, TurnDoes, Takes}
+use Rattle.turns.specs.Turns.{Halves, halves, sourceAt, targetAt, TurnAsks, TurnDoes, Takes, Makes}
 use Rattle.block.specs.BlockCall.{put, suited, roomsVerdict, passed, shorter, halvesVerdict}
 use Rattle.pipeline.specs.WritingBack.{stagesOf}
 use Rattle.block.specs.laws.Steps.{stage-at, stages-end, drop-zero, room-first, room-rest}
@@ -151,14 +152,14 @@ drop-seam l count i h = sym (drop-split l count i h)
     drop-split l zero (suc i) h = absurd (let c : ⊥ = omega arith in c)
 
 -- ---- a turn, by its half
-pub turns-of : (f : PcmFormat) (s next : Stage) (i n len : ℕ) (block : List ℕ) (h h′ : Halves)
-    → TurnDoes i n block h h′ (λ (source before after : List ℕ). Serves f s next (framesOf (f .channels) source) len before after)
-    → Turns f s next (framesOf (f .channels) (sourceAt i n block h)) i len h h′
-turns-of f s next i n len block h h′ d = record {
-  keeps = d .does .keeps;
-  size = d .does .size;
-  gives = go (eqb (i % 2) 0) (bytesOf (stageOut s (framesOf (f .channels) (sourceAt i n block h)))) (d .does .gives) (d .other);
-  frames = d .does .frames;
+pub turns-of : (f : PcmFormat) (s : Stage) (memory : SoundMemory) (i n len clipped : ℕ) (block : List ℕ) (h h′ : Halves)
+    → TurnDoes i n block h h′ (Makes f s memory len clipped)
+    → Turns f s (record { kind = s .kind; memory = memory }) (framesOf (f .channels) (sourceAt i n block h)) i len h h′
+turns-of f s memory i n len clipped block h h′ d = record {
+  keeps = d .does .serves .keeps;
+  size = d .does .serves .size;
+  gives = go (eqb (i % 2) 0) (bytesOf (stageOut s (framesOf (f .channels) (sourceAt i n block h)))) (d .does .serves .gives) (d .other);
+  frames = d .does .serves .frames;
 }
   where
     go : (t : Bool) (out : List ℕ) → cond t (h′ .a) (h′ .b) ≡ written out (cond t (h .a) (h .b)) → cond t (h′ .b) (h′ .a) ≡ cond t (h .b) (h .a)
@@ -182,13 +183,13 @@ module _ (old : List Stage) (count : ℕ) (format : PcmFormat) (block : List ℕ
       let e : i + 0 ≡ i = omega arith in
       sym (ap (λ (k : ℕ). getD old k d) e) ∙ sym (getD-drop i old 0 d) ∙ sym (ap (λ (l : List Stage). getD l 0 d) (r .tail)) ∙ getD-drop i stages 0 d ∙ ap (λ (k : ℕ). getD stages k d) e
 
-  ahead : drop i (take count old) ≡ s ∷ rest
+  pub ahead : drop i (take count old) ≡ s ∷ rest
   ahead = stage-at old count i d more (omega arith) ∙ ap (λ (x : Stage). x ∷ rest) same-stage
 
   not-none : length (r .xs) ≡ 0 → ⊥
   not-none e = omega (arith, r .some)
 
-  suit-here : stageSuits f (s .kind) (s .memory) ≡ true
+  pub suit-here : stageSuits f (s .kind) (s .memory) ≡ true
   suit-here = suited-first f s rest (sym (ap (suited f) ahead) ∙ r .suit)
 
   room-all : roomsVerdict f (s ∷ rest) (length (r .xs)) short ≡ Accepted
@@ -240,7 +241,7 @@ module _ (old : List Stage) (count : ℕ) (format : PcmFormat) (block : List ℕ
     good-out : FramesOf (g .channels) out
     good-out = subst (λ (k : PcmFormat). FramesOf (k .channels) out) (sym e) (subst (λ (xs : List Frame). FramesOf (f .channels) xs → FramesOf (formatAfter f (s .kind) .channels) (stageOut s xs)) (r .source) (t .frames) (r .good))
 
-    count-out : length out ≡ framesOut (s .kind) (s .memory) (length (r .xs))
+    pub count-out : length out ≡ framesOut (s .kind) (s .memory) (length (r .xs))
     count-out = stage-count s (r .xs)
 
     long-out : length (bytesOf out) ≡ length out * (g .channels * 2)
@@ -287,16 +288,25 @@ module _ (old : List Stage) (count : ℕ) (format : PcmFormat) (block : List ℕ
     empty-out : length out ≡ 0 → m ≡ 0
     empty-out q = size-is ∙ long-out ∙ ap (λ (k : ℕ). k * (g .channels * 2)) q ∙ zero-mul (g .channels * 2)
 
+    src : sourceAt (i + 1) m block h′ ≡ bytesOf out
+    src = ap (sourceAt (i + 1) m block) halves-are ∙ next-source i m block (bytesOf out) h size-is
+
+    -- the frames that come to the next stage
+    pub source-out : framesOf (g .channels) (sourceAt (i + 1) m block h′) ≡ out
+    source-out = ap (framesOf (g .channels)) src ∙ frames-bytes (g .channels) out some-channels good-out
+
+    pub none-out : m ≡ 0 → out ≡ []
+    none-out z = none-of out (zero-factor (length out) (g .channels * 2) (omega (arith, some-channels)) (sym long-out ∙ sym size-is ∙ z))
+
     -- frames came: the next stage takes them
     pub next-reached : (m ≡ 0 → ⊥) → Reached old count format block before short moved g m (i + 1) h′
     next-reached z =
-        let src : sourceAt (i + 1) m block h′ ≡ bytesOf out = ap (sourceAt (i + 1) m block) halves-are ∙ next-source i m block (bytesOf out) h size-is in
         record {
           xs = out;
           good = good-out;
           some = positive (length out) (λ q. z (empty-out q));
           channels = few-channels;
-          source = ap (framesOf (g .channels)) src ∙ frames-bytes (g .channels) out some-channels good-out;
+          source = source-out;
           long = ap length src ∙ long-out;
           size = size-is;
           suit = subst (λ (k : PcmFormat). suited k rest ≡ true) (sym e) (suited-rest f s rest (sym (ap (suited f) ahead) ∙ r .suit));
@@ -320,7 +330,7 @@ module _ (old : List Stage) (count : ℕ) (format : PcmFormat) (block : List ℕ
     }
       where
         out-none : out ≡ []
-        out-none = none-of out (zero-factor (length out) (g .channels * 2) (omega (arith, some-channels)) (sym long-out ∙ sym size-is ∙ z))
+        out-none = none-out z
 
 -- ---- past the last stage
 module _ (old : List Stage) (count : ℕ) (format : PcmFormat) (block : List ℕ) (before : Halves) (short : ℕ)

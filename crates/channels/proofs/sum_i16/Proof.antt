@@ -15,7 +15,7 @@ returns : tie.Need-returns
 unfolding mixed
 returns c =
     let s = c .before in
-    answered w16 (c .sat16 .ok) (simp (toZ-ofZ, s .fits .a, s .fits .b, sizes s .left, sizes s .right, sizes s .sum) at (c .sat16 .ensures))
+    answered w16 (c .held16 .ok) (simp (toZ-ofZ, s .fits .a, s .fits .b, sizes s .left, sizes s .right, sizes s .sum) at (c .held16 .ensures))
 
 pub sum-i16-spec : {M : Type 1} → statement M
 sum-i16-spec = tie.close (tie.spec

@@ -22,7 +22,7 @@ module _ (t : tie.After-arrived) where
   out = t .arrived .last .1 .1 .1 .0
 
   there : t .arrived .result .len ≤ length out
-  there = within (s .args .format) (s .args .s) (s .args .input .now) (s .args .out .now) (s .pre) (t .arrived .result .memory) (t .arrived .result .len) out (t .arrived .ensures) frames
+  there = within (s .args .format) (s .args .s) (s .args .input .now) (s .args .out .now) (s .pre) (t .arrived .result .memory) (t .arrived .result .len) (t .arrived .result .clipped) out (t .arrived .ensures) frames
 
 pub end-turn-spec : {M : Type 1} → statement M
 end-turn-spec = tie.close (tie.spec
@@ -31,17 +31,17 @@ end-turn-spec = tie.close (tie.spec
     (λ c. there (c .before .before .before .before))
     (λ c. search needs)
     (λ c κs. let t = c .before .before .before .before .before in let a = s t .args in
-    (s t .pre .channels, last-fits (a .format) (a .s) (a .input .now) (a .out .now) (s t .pre) (t .arrived .result .memory) (t .arrived .result .len) (out t) (t .arrived .ensures) (frames t)))
+    (s t .pre .channels, last-fits (a .format) (a .s) (a .input .now) (a .out .now) (s t .pre) (t .arrived .result .memory) (t .arrived .result .len) (t .arrived .result .clipped) (out t) (t .arrived .ensures) (frames t)))
     (λ c. let p = c .before .before in let t = p .before .before .before .before .before .before in let a = s t .args in
     record {
       fits = omega (
         arith,
-        size-most (a .format) (a .s) (a .input .now) (a .out .now) (s t .pre) (t .arrived .result .memory) (t .arrived .result .len) (out t) (t .arrived .ensures) (frames t)
+        size-most (a .format) (a .s) (a .input .now) (a .out .now) (s t .pre) (t .arrived .result .memory) (t .arrived .result .len) (t .arrived .result .clipped) (out t) (t .arrived .ensures) (frames t)
             (p .put-last .result) _ (p .put-last .ensures .0) (p .put-last .ensures .1),
         s t .good,
       );
     })
     (λ c. search needs)
     (λ c. let p = c .before .before in let t = p .before .before .before .before .before .before in let a = s t .args in
-    serves-to-end (a .format) (a .s) (a .input .now) (a .out .now) (s t .pre) (t .arrived .result .memory) (t .arrived .result .len) (out t) (t .arrived .ensures) (frames t)
+    serves-to-end (a .format) (a .s) (a .input .now) (a .out .now) (s t .pre) (t .arrived .result .memory) (t .arrived .result .len) (t .arrived .result .clipped) (out t) (t .arrived .ensures) (frames t)
     (p .put-last .result) _ (p .put-last .ensures .0) (p .put-last .ensures .1)))

@@ -50,7 +50,7 @@ taken-spec = tie.close (tie.spec
     biquad-turn-asks (s .args .format) (s .args .s) (asks (s .args .format) (s .args .s) (s .pre)) _ (t .kind4 .given .1) .asks)
     (λ c. search needs)
     (λ c. let d = c .before .before in let t = d .before .before .before in let s = start (t .before .before) in
-    gain-turned (s .args .format) (s .args .s) (asks (s .args .format) (s .args .s) (s .pre)) _ _ (t .kind .given .1) (does (d .process .ensures)) .does)
+    gain-turned (s .args .format) (s .args .s) (asks (s .args .format) (s .args .s) (s .pre)) _ _ _ (t .kind .given .1) (does (d .process .ensures)) .does)
     (λ c. search needs)
     (λ c. let d = c .before .before in let t = d .before .before in let s = start (t .before .before) in
     stereo-turned (s .args .format) (s .args .s) (asks (s .args .format) (s .args .s) (s .pre)) _ (t .enum-told .given .1) (does (d .mono-to-stereo .ensures)) .does)
@@ -61,8 +61,8 @@ taken-spec = tie.close (tie.spec
     (λ c. let d = c .before .before .before .before in let m = d .before .before in let t = m .before .before in let s = start (t .before .before) in
     resample-turned (s .args .format) (s .args .s) (asks (s .args .format) (s .args .s) (s .pre)) _ _ (t .kind2 .given .1) (m .held-samples .ensures .0) (m .held-samples .ensures .1) (d .process2 .result) _ (does (d .process2 .ensures)) .does)
     (λ c. search needs)
-    (λ c. let d = c .before .before in let t = d .before .before .before in let s = start (t .before .before) in
+    (λ c. let d = c .before .before .before in let t = d .before .before .before in let s = start (t .before .before) in
     dc-turned (s .args .format) (s .args .s) (asks (s .args .format) (s .args .s) (s .pre)) _ _ _ (t .kind3 .given .1) (does (d .process3 .ensures)) .does)
     (λ c. search needs)
-    (λ c. let d = c .before .before in let t = d .before .before .before in let s = start (t .before .before) in
+    (λ c. let d = c .before .before .before in let t = d .before .before .before in let s = start (t .before .before) in
     biquad-turned (s .args .format) (s .args .s) (asks (s .args .format) (s .args .s) (s .pre)) _ _ _ (t .kind4 .given .1) (does (d .process4 .ensures)) .does))

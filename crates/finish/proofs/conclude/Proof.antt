@@ -3,7 +3,6 @@ use borrow.Author.Needs.{needs}
 use borrow.Author.Tests.{le-leb}
 use mathlib.Core.Path.{_≡_}
 use mathlib.Core.Bool.{true}
-use Prim.Native.Nat.{ℕ}
 use Rattle.pcm.specs.declared.PcmFormat.{PcmFormat}
 use Rattle.pipeline.specs.declared.Pipeline.{Pipeline}
 use Rattle.pipeline.specs.Reset.{resetCall, outputFormat}
@@ -12,14 +11,15 @@ use Rattle.answers.specs.Answers.{lastHalf}
 use Rattle.answers.specs.FinishAnswers.{finishAnswer}
 use Rattle.block.specs.BlockCall.{legal}
 use Rattle.block.specs.laws.Bounds.{legal-parts}
+use Rattle.end_turns.specs.declared.EndApplied.{EndApplied}
 use Rattle.finish.specs.Turns.{endedAs}
 use Rattle.finish.proofs.conclude.Statement.{statement}
 use Rattle.finish.proofs.conclude.Tie as tie
 
-cleared : (c reset : Pipeline) (len : ℕ) (f : PcmFormat) (answer : FinishAnswer) → legal c ≡ true → f ≡ outputFormat c → answer ≡ finishAnswer f (lastHalf (c .count)) len → reset ≡ resetCall c
-    → record { chain = reset; answer = answer } ≡ endedAs c len
+cleared : (c reset : Pipeline) (done : EndApplied) (f : PcmFormat) (answer : FinishAnswer) → legal c ≡ true → f ≡ outputFormat c → answer ≡ finishAnswer f (lastHalf (c .count)) (done .len) (done .clipped) → reset ≡ resetCall c
+    → record { chain = reset; answer = answer } ≡ endedAs c done
 unfolding endedAs outputFormat
-cleared c reset len f answer l g h e = rw (e, h, g, le-leb _ _ (legal-parts c l .few))
+cleared c reset done f answer l g h e = rw (e, h, g, le-leb _ _ (legal-parts c l .few))
 
 pub conclude-spec : {M : Type 1} → statement M
 conclude-spec = tie.close (tie.spec

@@ -2,20 +2,20 @@
 use borrow.Author.Needs.{needs}
 use mathlib.Core.Path.{_≡_, ap, ap₂, _∙_}
 use mathlib.Core.List.{[]}
-use Prim.Native.Nat.{ℕ}
 use Rattle.pipeline.specs.declared.Pipeline.{Pipeline}
 use Rattle.turns.specs.Turns.{Halves}
 use Rattle.pipeline.specs.WritingBack.{stagesOf}
+use Rattle.end_turns.specs.declared.EndApplied.{EndApplied}
 use Rattle.finish.specs.declared.Finished.{Finished}
-use Rattle.finish.specs.FinishCall.{FinishResult, finishBytes, endedHalves, finished}
+use Rattle.finish.specs.FinishCall.{FinishResult, finishBytes, finishClipped, endedHalves, finished}
 use Rattle.finish.specs.Turns.{endedAs}
 use Rattle.finish.proofs.play.Statement.{statement}
 use Rattle.finish.proofs.play.Tie as tie
 
-played : (c : Pipeline) (h h′ : Halves) (len : ℕ) (r : Finished) → len ≡ finishBytes c → h′ ≡ endedHalves 0 (c .format) (stagesOf c) [] h → r ≡ endedAs c len
+played : (c : Pipeline) (h h′ : Halves) (done : EndApplied) (r : Finished) → done ≡ record { len = finishBytes c; clipped = finishClipped c } → h′ ≡ endedHalves 0 (c .format) (stagesOf c) [] h → r ≡ endedAs c done
     → record { chain = r .chain; answer = r .answer; a = h′ .a; b = h′ .b } ≡ finished c h
 unfolding endedAs finished
-played c h h′ len r n e k =
+played c h h′ done r n e k =
     ap₂ (λ (q : Finished) (x : Halves). let w : FinishResult = record { chain = q .chain; answer = q .answer; a = x .a; b = x .b } in w) (k ∙ ap (endedAs c) n) e
 
 pub play-spec : {M : Type 1} → statement M

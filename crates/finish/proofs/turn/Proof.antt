@@ -15,10 +15,10 @@ turn-spec =
     (λ c κs. let t = c .before .before in let s = t .before .before .before in even-asks (s .args .format) (s .args .s) (s .args .i) (s .args .n) (s .args .a .now) (s .args .b .now) (t .if1 .taken) (s .pre .1 .1))
     (λ c. search needs) (λ c. search needs)
     (λ c. let t = c .before .before .before .before .before in let s = t .before .before .before in
-    even-gives (s .args .format) (s .args .s) (s .args .i) (s .args .n) (s .args .a .now) (s .args .b .now) _ _ (t .if1 .taken) (c .before .before .end-turn .ensures))
+    even-gives (s .args .format) (s .args .s) (s .args .i) (s .args .n) (s .args .a .now) (s .args .b .now) _ _ _ (t .if1 .taken) (c .before .before .end-turn .ensures))
     (λ c. search needs)
     (λ c. sym (length-take-le _ _ (c .before .before .before .before .pre .0)))
     (λ c κs. let t = c .before .before in let s = t .before .before .before in odd-asks (s .args .format) (s .args .s) (s .args .i) (s .args .n) (s .args .a .now) (s .args .b .now) (t .if1 .left) (s .pre .1 .1))
     (λ c. search needs) (λ c. search needs)
     (λ c. let t = c .before .before .before .before .before in let s = t .before .before .before in
-    odd-gives (s .args .format) (s .args .s) (s .args .i) (s .args .n) (s .args .a .now) (s .args .b .now) _ _ (t .if1 .left) (c .before .before .end-turn2 .ensures)))
+    odd-gives (s .args .format) (s .args .s) (s .args .i) (s .args .n) (s .args .a .now) (s .args .b .now) _ _ _ (t .if1 .left) (c .before .before .end-turn2 .ensures)))

@@ -2,7 +2,7 @@
 use mathlib.Core.Path.{_≡_, refl, sym, ap, ap₂, _∙_}
 use mathlib.Core.Bool.{true}
 use mathlib.Core.List.{List, [], _∷_, _++_, append-nil, map}
-use Prim.Native.Nat.{ℕ, suc, _*_}
+use Prim.Native.Nat.{ℕ, suc, _+_, _*_}
 use native.Mathlib.Omega.{arith}
 use native.Mathlib.Nat.{zero-mul}
 use borrow.Author.Tests.{le-leb}
@@ -13,14 +13,15 @@ use Rattle.pcm.specs.Frames.{Frame, bytesOf}
 use Rattle.stage.specs.declared.Stage.{Stage}
 use Rattle.stage.specs.declared.StageKind.{StageKind}
 use Rattle.stage.specs.Stages.{stageOut, stageNext, stageAsOpened, stageClear, kindsOf, memoryAsOpened, formatAfter}
-use Rattle.block.specs.Chain.{chainOut, chainNext}
+use Rattle.stage.specs.laws.Stages.{stage-clipped-nil, stage-clipped-append}
+use Rattle.block.specs.Chain.{chainOut, chainNext, chainClipped}
 use Rattle.turns.specs.Turns.{Halves}
 use Rattle.block.specs.BlockCall.{put, suited}
 use Rattle.block.specs.laws.Bounds.{suited-first, suited-rest}
 use Rattle.block.specs.laws.Reaching.{bytes-nil, put-nil}
 use Rattle.ending.specs.StageEnd.{stageEnd, framesAtEnd}
 use Rattle.ending.specs.laws.StageEnd.{next-kind, stage-end-append, stage-end-opened, stage-end-count}
-use Rattle.finish.specs.FinishCall.{chainEnd, roomAtEnd, endVerdict, endedHalves}
+use Rattle.finish.specs.FinishCall.{chainEnd, endClipped, roomAtEnd, endVerdict, endedHalves}
 
 -- a stream in two parts, of which the second ends, is the whole that ends
 pub chain-end-append : (f : PcmFormat) (l : List Stage) (xs ys : List Frame) → chainEnd f l (xs ++ ys) ≡ chainOut l xs ++ chainEnd f (chainNext l xs) ys
@@ -35,6 +36,22 @@ chain-end-append f (s ∷ l) xs ys =
 pub chain-ends : (f : PcmFormat) (l : List Stage) (xs : List Frame) → chainOut l xs ++ chainEnd f (chainNext l xs) [] ≡ chainEnd f l xs
 chain-ends f l xs = sym (chain-end-append f l xs []) ∙ ap (chainEnd f l) (append-nil xs)
 
+-- the same of what is held back
+end-clipped-append : (f : PcmFormat) (l : List Stage) (xs ys : List Frame) → endClipped f l (xs ++ ys) ≡ chainClipped l xs + endClipped f (chainNext l xs) ys
+unfolding endClipped
+end-clipped-append f [] xs ys = refl
+end-clipped-append f (s ∷ l) xs ys =
+    omega (
+      arith,
+      stage-clipped-append s xs ys,
+      ap (endClipped (formatAfter f (s .kind)) l) (stage-end-append (f .channels) s xs ys),
+      end-clipped-append (formatAfter f (s .kind)) l (stageOut s xs) (stageEnd (f .channels) (stageNext s xs) ys),
+      ap (λ (k : StageKind). endClipped (formatAfter f k) (chainNext l (stageOut s xs)) (stageEnd (f .channels) (stageNext s xs) ys)) (next-kind s xs),
+    )
+
+pub end-clips : (f : PcmFormat) (l : List Stage) (xs : List Frame) → chainClipped l xs + endClipped f (chainNext l xs) [] ≡ endClipped f l xs
+end-clips f l xs = sym (end-clipped-append f l xs []) ∙ ap (endClipped f l) (append-nil xs)
+
 -- ---- a chain as opened that ends at once
 pub clear-is-opened : (l : List Stage) → map stageClear l ≡ map stageAsOpened (kindsOf l)
 clear-is-opened [] = refl
@@ -45,6 +62,13 @@ pub chain-end-opened : (f : PcmFormat) (ks : List StageKind) → chainEnd f (map
 unfolding chainEnd
 chain-end-opened f [] = refl
 chain-end-opened f (k ∷ ks) = ap (chainEnd (formatAfter f k) (map stageAsOpened ks)) (stage-end-opened (f .channels) k) ∙ chain-end-opened (formatAfter f k) ks
+
+-- holds nothing back
+pub end-clipped-opened : (f : PcmFormat) (ks : List StageKind) → endClipped f (map stageAsOpened ks) [] ≡ 0
+unfolding endClipped
+end-clipped-opened f [] = refl
+end-clipped-opened f (k ∷ ks) =
+    omega (arith, stage-clipped-nil (stageAsOpened k), ap (endClipped (formatAfter f k) (map stageAsOpened ks)) (stage-end-opened (f .channels) k), end-clipped-opened (formatAfter f k) ks)
 
 -- and is accepted with any halves, empty ones too
 pub end-room-opened : (f : PcmFormat) (ks : List StageKind) (shorter : ℕ) → suited f (map stageAsOpened ks) ≡ true → endVerdict f (map stageAsOpened ks) 0 shorter ≡ Accepted

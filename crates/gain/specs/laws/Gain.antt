@@ -21,10 +21,12 @@ unfolding scaled
 scaled-fits q15 x = held-fits (floorDiv (x *ℤ q15 +ℤ pos 16384) 32768)
 
 -- the factor 32,768 leaves a sample as it is: the copying arm
+pub unity-quotient : (x : ℤ) → floorDiv (x *ℤ pos 32768 +ℤ pos 16384) 32768 ≡ x
+unity-quotient x = ap (λ (z : ℤ). floorDiv z 32768) (+ℤ-comm (x *ℤ pos 32768) (pos 16384)) ∙ floor-add (pos 16384) x ∙ +ℤ-idr x
+
 pub scaled-unity : (x : ℤ) → SFits w16 x → scaled (pos 32768) x ≡ x
 unfolding scaled
-scaled-unity x f =
-    ap held16 (ap (λ (z : ℤ). floorDiv z 32768) (+ℤ-comm (x *ℤ pos 32768) (pos 16384)) ∙ floor-add (pos 16384) x ∙ +ℤ-idr x) ∙ held-sample x f
+scaled-unity x f = ap held16 (unity-quotient x) ∙ held-sample x f
 
 pub unity-samples : (xs : List ℤ) → Samples xs → map (scaled (pos 32768)) xs ≡ xs
 unity-samples [] f = refl

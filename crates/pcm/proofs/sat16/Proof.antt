@@ -1,20 +1,19 @@
--- `pcm::sat16` meets its contract: each return by the tests that led to it. Assumes nothing.
-use mathlib.Core.Path.{sym, subst}
-use lib.IntN.{pos, negsuc}
-use mir.Syntax.{w16, w32}
-use mir.Val.{SFits}
-use Rattle.pcm.specs.laws.Integers.{settled}
-use Rattle.pcm.specs.laws.Samples.{tested-low, tested-high, tested-inside, held-fits}
+-- `pcm::sat16` meets its contract. Assumes nothing.
+use borrow.Author.Needs.{needs}
+use mathlib.Core.Path.{ap, ap₂, _∙_}
+use mathlib.Core.Bool.{Bool}
+use lib.IntN.{ℤ}
+use mir.Syntax.{w16}
+use Rattle.pcm.specs.declared.Saturated.{Saturated}
+use Rattle.pcm.specs.Samples.{saturated}
+use Rattle.pcm.specs.laws.Integers.{answered, read-back}
 use Rattle.pcm.proofs.sat16.Statement.{statement}
 use Rattle.pcm.proofs.sat16.Tie as tie
 
 pub sat16-spec : {M : Type 1} → statement M
 sat16-spec = tie.close (tie.spec
-    (λ c. tested-low w32 (negsuc 32767) (pos 32767) (c .before .args .v) (c .before .fits .v) (c .if1 .taken))
-    (λ c. let s = c .before .before in tested-high w32 (negsuc 32767) (pos 32767) (s .args .v) (s .fits .v) (c .before .if1 .left) (c .if2 .taken))
+    (λ c κs. search needs) (λ c κs. search needs)
     (λ c.
-    let s = c .before .before in
-    subst (SFits w16) (sym (tested-inside w32 (negsuc 32767) (pos 32767) (s .args .v) (s .fits .v) (c .before .if1 .left) (c .if2 .left))) (held-fits (s .args .v)))
-    (λ c.
-    let s = c .before .before in
-    settled w16 (tested-inside w32 (negsuc 32767) (pos 32767) (s .args .v) (s .fits .v) (c .before .if1 .left) (c .if2 .left)) (held-fits (s .args .v))))
+    let h = c .before in
+    ap₂ (λ (sample : ℤ) (clipped : Bool). let s : Saturated = record { sample = sample; clipped = clipped } in s) (answered w16 (h .held16 .ok) (h .held16 .ensures)) (c .outside16 .ensures)
+    ∙ ap saturated (read-back (h .before .fits .v))))

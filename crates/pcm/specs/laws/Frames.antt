@@ -132,6 +132,11 @@ module _ (ch : ℕ) (bytes : List ℕ) (whole : length bytes % (ch * 2) ≡ 0) w
         let e : 2 * (g * ch + c) ≡ (g * ch + c) * 2 = omega arith in
         getD-cut ch (length bytes / (ch * 2)) (decode bytes) g c (pos 0) h k ∙ getD-decode bytes (g * ch + c) (pos 0) (omega (arith, sample-inside)) ∙ ap (sampleAt bytes) e
 
+  -- the samples of the frames are those of the bytes
+  pub flat-frames : flat (framesOf ch bytes) ≡ decode bytes
+  unfolding framesOf
+  flat-frames = flat-cut ch (length bytes / (ch * 2)) (decode bytes) (length-decode bytes ∙ omega (arith, whole-is))
+
   -- whole frames of bytes, there and back
   pub bytes-frames : Bytes bytes → bytesOf (framesOf ch bytes) ≡ bytes
   unfolding framesOf bytesOf

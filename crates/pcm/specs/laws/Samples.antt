@@ -1,20 +1,22 @@
 -- Numbers held within limits, and bytes to samples and back. Assumes nothing.
 use mathlib.Core.Path.{_≡_, refl, sym, ap, ap₂, _∙_}
+use mathlib.Core.Logic.{⊎-elim}
 use mathlib.Core.Bool.{Bool, true, false, cond}
 use mathlib.Core.List.{List, [], _∷_, _++_}
-use Prim.Native.Nat.{ℕ, zero, suc, _+_, _*_, _/_, _%_, _<_, suc-le-suc, zero-le}
+use Prim.Native.Nat.{ℕ, zero, suc, _+_, _*_, _/_, _%_, _≤_, _<_, suc-le-suc, zero-le}
 use native.Mathlib.Nat.{not-suc-le-zero}
 use native.Mathlib.Omega.{arith}
-use borrow.Author.Tests.{ltb-false, le-ltb}
-use lib.IntN.{ℤ, pos, negsuc}
+use borrow.Author.Tests.{ltb-false, lt-ltb, le-ltb}
+use lib.IntN.{ℤ, pos, negsuc, _-ℤ_}
 use lib.ListN.{length, getD}
 use lib.Signed.{ltZ}
-use mir.Syntax.{Width, w16}
+use mir.Syntax.{Width, w16, w32}
 use mir.Val.{SFits, toZ, ofZ}
-use mir.Facts.{toZ-ofZ, ofZ-toZ, sfits-toZ, sfits-lit}
+use mir.Facts.{toZ-pos, toZ-ofZ, ofZ-toZ, sfits-toZ, sfits-lit}
 use Rattle.pcm.specs.Integers.{−}
 use Rattle.pcm.specs.laws.Integers.{read-back}
-use Rattle.pcm.specs.Samples.{held, held16, sampleOf, lowOf, highOf, decode, encode, sampleAt, All, Bytes, Samples}
+use Rattle.pcm.specs.laws.Tests.{lt-or-ge}
+use Rattle.pcm.specs.Samples.{held, held16, outside, sampleOf, lowOf, highOf, decode, encode, sampleAt, All, Bytes, Samples}
 
 -- ---- holding
 module _ (low high z : ℤ) where
@@ -40,6 +42,15 @@ module _ (w : Width) (low high z : ℤ) (f : SFits w z) where
 
   pub tested-inside : ltZ (toZ w (ofZ w z)) low ≡ false → ltZ high (toZ w (ofZ w z)) ≡ false → toZ w (ofZ w z) ≡ held low high z
   tested-inside e k = read-back f ∙ held-inside low high z (rw (read-back f) at e) (rw (read-back f) at k)
+
+  -- the same of lying outside
+  pub outside-low : ltZ (toZ w (ofZ w z)) low ≡ true → true ≡ outside low high z
+  unfolding outside
+  outside-low e = rw (rw (read-back f) at e)
+
+  pub outside-rest : ltZ (toZ w (ofZ w z)) low ≡ false → ltZ high (toZ w (ofZ w z)) ≡ outside low high z
+  unfolding outside
+  outside-rest e = rw (rw (read-back f) at e, read-back f)
 
 pub inside16 : (z : ℤ) → ltZ z (− 32768) ≡ false → ltZ (pos 32767) z ≡ false → SFits w16 z
 inside16 (pos n) e k = record { sfits = omega (arith, ltb-false 32767 n k) }
@@ -118,3 +129,13 @@ getD-decode (x ∷ y ∷ bytes) (suc t) z h =
     let e : 2 * suc t ≡ suc (suc (2 * t)) = omega arith in
     let e′ : 2 * suc t + 1 ≡ suc (suc (2 * t + 1)) = omega arith in
     rw (e′, e) (getD-decode bytes t z (omega arith))
+
+-- ---- 16 bits moved up by half the range, and down again
+unbias : (u : ℕ) → u < 65536 → pos ((u + 32768) % 65536) -ℤ pos 32768 ≡ toZ w16 u
+unbias u h = ⊎-elim
+    (λ (l : u < 32768). let g : 32768 ≤ (u + 32768) % 65536 = omega arith in simp (le-ltb _ _ g, lt-ltb _ _ l) (ap pos (omega arith)))
+    (λ (l : 32768 ≤ u). let g : (u + 32768) % 65536 < 32768 = omega arith in simp (lt-ltb _ _ g, le-ltb _ _ l) (ap negsuc (omega arith)))
+    (lt-or-ge u 32768)
+
+pub lowered : (u : ℕ) → u < 65536 → toZ w32 ((u + 32768) % 65536) -ℤ pos 32768 ≡ toZ w16 u
+lowered u h = ap (λ z. z -ℤ pos 32768) (toZ-pos w32 {n = (u + 32768) % 65536} (omega arith)) ∙ unbias u h

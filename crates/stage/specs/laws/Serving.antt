@@ -10,12 +10,16 @@ use lib.IntN.{ℤ, natAbs}
 use lib.ListN.{length}
 use Rattle.pcm.specs.declared.PcmFormat.{PcmFormat}
 use Rattle.filters.specs.declared.FilterMemory.{FilterMemory}
+use Rattle.filters.specs.declared.Filtered.{Filtered}
+use Rattle.pcm.specs.Samples.{decode}
 use Rattle.pcm.specs.Frames.{Frame, FramesOf, framesOf, bytesOf, written}
 use Rattle.pcm.specs.laws.Frames.{length-frames, length-bytes}
 use Rattle.filters.specs.Filters.{Taps, FilterBlock, FilteredBlock, filtered, tapsOf, memoryNext}
 use Rattle.filters.specs.laws.Filters.{length-filtered-bytes}
 use Rattle.gain.specs.declared.Gain.{Gain}
 use Rattle.gain.specs.Gain.{scaledBytes}
+use Rattle.gain.specs.Clipping.{clippedIn}
+use Rattle.gain.specs.laws.Clipping.{clipped-frames}
 use Rattle.gain.specs.laws.Gain.{scaled-frames, length-scaled}
 use Rattle.channels.specs.Channels.{doubled, mixdown, stereoBytes, monoBytes}
 use Rattle.channels.specs.laws.Channels.{length-stereo, length-mono}
@@ -34,7 +38,7 @@ use Rattle.stage.specs.declared.StageKind.{StageKind}
 use Rattle.stage.specs.declared.StageKind.the-variants as kind
 use Rattle.stage.specs.declared.SoundMemory.{SoundMemory}
 use Rattle.stage.specs.declared.Stage.{Stage}
-use Rattle.stage.specs.Stages.{outOf, keepsOf, stageOut, stageNext, formatAfter}
+use Rattle.stage.specs.Stages.{outOf, keepsOf, clippedOf, stageOut, stageNext, stageClipped, formatAfter}
 use Rattle.stage.specs.Rooms.{stageSuits, framesOut, Resamples, Held, Served, Serves}
 use Rattle.stage.specs.laws.Rooms.{resamples, held-frames}
 
@@ -46,6 +50,10 @@ module _ (st : Stage) (xs : List Frame) (k : StageKind) (e : st .kind ≡ k) whe
   next-is : stageNext st xs ≡ record { kind = k; memory = keepsOf k (st .memory) xs }
   unfolding stageNext
   next-is = ap (λ (k : StageKind). record { kind = k; memory = keepsOf k (st .memory) xs }) e
+
+  pub clipped-is : stageClipped st xs ≡ clippedOf k (st .memory) xs
+  unfolding stageClipped
+  clipped-is = ap (λ (k : StageKind). clippedOf k (st .memory) xs) e
 
   -- a stage that keeps nothing is as it was
   as-it-was : keepsOf k (st .memory) xs ≡ st .memory → st ≡ stageNext st xs
@@ -88,6 +96,9 @@ module _ (f : PcmFormat) (st : Stage) (src dst : List ℕ) (w : Served f st src 
   gain-serves g dst′ e h =
       serves st (scaledBytes (g .q15) src) dst′ (length src) (as-it-was st xs (kind.Gain g) e refl)
       (scaled-frames (f .channels) (g .q15) src (w .whole) ∙ ap bytesOf (sym (out-is st xs (kind.Gain g) e))) (sym (length-scaled (g .q15) src even)) h
+
+  pub gain-holds : (g : Gain) (clipped : ℕ) → st .kind ≡ kind.Gain g → clipped ≡ clippedIn (g .q15) (decode src) → clipped ≡ stageClipped st xs
+  gain-holds g clipped e h = h ∙ clipped-frames (f .channels) (g .q15) src (w .whole) ∙ sym (clipped-is st xs (kind.Gain g) e)
 
   -- ---- the channel stages
   stereo-channels : st .kind ≡ kind.MonoToStereo → f .channels ≡ 1
@@ -141,23 +152,23 @@ module _ (f : PcmFormat) (st : Stage) (src dst : List ℕ) (w : Served f st src 
   unfolding framesOut
   biquad-asks b e = filter-asks (omega (arith, room-of (kind.Biquad b) e, whole-is))
 
-  filter-serves : (tick : Taps → ℤ → Taps) (k : StageKind) (n : FilterMemory) (dst′ : List ℕ) → st .kind ≡ k
+  filter-serves : (tick : Taps → ℤ → Taps) (k : StageKind) (n : Filtered) (dst′ : List ℕ) → st .kind ≡ k
       → outOf k (st .memory) xs ≡ filtered tick (tapsOf (st .memory .filter)) xs
       → keepsOf k (st .memory) xs ≡ record { filter = memoryNext tick (st .memory .filter) xs; resampler = st .memory .resampler }
       → FilteredBlock tick (f .channels) (st .memory .filter) src dst dst′ n
-      → Serves f st (record { kind = k; memory = record { filter = n; resampler = st .memory .resampler } }) xs (length src) dst dst′
+      → Serves f st (record { kind = k; memory = record { filter = n .memory; resampler = st .memory .resampler } }) xs (length src) dst dst′
   filter-serves tick k n dst′ e o m b =
       serves _ (bytesOf (filtered tick (tapsOf (st .memory .filter)) xs)) dst′ (length src)
       (ap (λ (n : FilterMemory). record { kind = k; memory = record { filter = n; resampler = st .memory .resampler } }) (b .memory)
       ∙ sym (next-is st xs k e ∙ ap (λ (m : SoundMemory). record { kind = k; memory = m }) m))
       (ap bytesOf (sym (out-is st xs k e ∙ o))) (sym (length-filtered-bytes tick (f .channels) (tapsOf (st .memory .filter)) src (w .whole))) (b .bytes)
 
-  pub dc-serves : (b : DcBlock) (n : FilterMemory) (dst′ : List ℕ) → st .kind ≡ kind.DcBlock b → FilteredBlock (dcTick (b .r)) (f .channels) (st .memory .filter) src dst dst′ n
-      → Serves f st (record { kind = kind.DcBlock b; memory = record { filter = n; resampler = st .memory .resampler } }) xs (length src) dst dst′
+  pub dc-serves : (b : DcBlock) (n : Filtered) (dst′ : List ℕ) → st .kind ≡ kind.DcBlock b → FilteredBlock (dcTick (b .r)) (f .channels) (st .memory .filter) src dst dst′ n
+      → Serves f st (record { kind = kind.DcBlock b; memory = record { filter = n .memory; resampler = st .memory .resampler } }) xs (length src) dst dst′
   dc-serves b n dst′ e h = filter-serves (dcTick (b .r)) (kind.DcBlock b) n dst′ e refl refl h
 
-  pub biquad-serves : (b : Biquad) (n : FilterMemory) (dst′ : List ℕ) → st .kind ≡ kind.Biquad b → FilteredBlock (biquadTick (b .coefficients)) (f .channels) (st .memory .filter) src dst dst′ n
-      → Serves f st (record { kind = kind.Biquad b; memory = record { filter = n; resampler = st .memory .resampler } }) xs (length src) dst dst′
+  pub biquad-serves : (b : Biquad) (n : Filtered) (dst′ : List ℕ) → st .kind ≡ kind.Biquad b → FilteredBlock (biquadTick (b .coefficients)) (f .channels) (st .memory .filter) src dst dst′ n
+      → Serves f st (record { kind = kind.Biquad b; memory = record { filter = n .memory; resampler = st .memory .resampler } }) xs (length src) dst dst′
   biquad-serves b n dst′ e h = filter-serves (biquadTick (b .coefficients)) (kind.Biquad b) n dst′ e refl refl h
 
   -- ---- the resampler

@@ -16,15 +16,17 @@ use Rattle.stage.specs.declared.Stage.{Stage}
 use Rattle.stage.specs.Stages.{stageAsOpened}
 use Rattle.pipeline.specs.declared.Pipeline.{Pipeline}
 use Rattle.pipeline.specs.WritingBack.{stagesOf}
-use Rattle.block.specs.Chain.{chainOut, chainNext}
+use Rattle.block.specs.Chain.{chainOut, chainNext, chainClipped}
 use Rattle.block.specs.BlockCall.{suited, legal, blockVerdict, shorter}
 use Rattle.block.specs.laws.Bounds.{legal-parts}
-use Rattle.finish.specs.FinishCall.{chainEnd, endVerdict, finishVerdict}
-use Rattle.stream.specs.Calls.{Call, block, reset, finish, Lent, Run, afterCall}
+use Rattle.finish.specs.FinishCall.{chainEnd, endClipped, endVerdict, finishVerdict}
+use Rattle.stream.specs.Calls.{Call, block, reset, finish, Lent, Run, fresh, afterCall}
 use Rattle.stream.specs.Opened.{kindsIn, FreshlyOpened}
 use Rattle.stream.specs.PlainChain.{plainOut, plainState}
 use Rattle.stream.specs.laws.PlainChain.{chain-is-plain, state-is-plain}
 use Rattle.finish.specs.laws.ChainEnd.{clear-is-opened}
+use Rattle.stream.specs.PlainClipped.{plainClips, plainEndClips}
+use Rattle.stream.specs.laws.PlainClipped.{clips-are-plain, end-clips-are-plain}
 use Rattle.stream.specs.PlainRoom.{plainVerdict}
 use Rattle.stream.specs.laws.PlainRoom.{suited-still, verdict-is-plain}
 use Rattle.stream.specs.PlainEnd.{plainEnd, plainFinish}
@@ -51,6 +53,9 @@ module _ (o : Pipeline) (opened : FreshlyOpened o) where
 
     pub output-plain : r .joined ≡ bytesOf (plainOut (kindsIn o) X)
     output-plain = v .output ∙ ap bytesOf (ap (λ (l : List Stage). chainOut l X) as-opened ∙ chain-is-plain (kindsIn o) X)
+
+    pub clipped-plain : r .clipped ≡ plainClips (kindsIn o) X
+    clipped-plain = v .clipped ∙ ap (λ (l : List Stage). chainClipped l X) as-opened ∙ clips-are-plain (kindsIn o) X
 
     pub verdict-plain : (format : PcmFormat) (bytes a b : List ℕ)
         → blockVerdict (r .chain) format (length bytes) (shorter a b) ≡ plainVerdict (o .format) (kindsIn o) X format bytes (shorter a b)
@@ -80,6 +85,11 @@ module _ (o : Pipeline) (opened : FreshlyOpened o) where
   end-output-plain {X} {r} v =
       v .output
       ∙ ap bytesOf (ap (λ (l : List Stage). chainEnd (o .format) l X) as-opened ∙ chain-end-is-plain (o .format) (kindsIn o) X suit (legal-parts o (opened .lawful) .channels) (v .frames))
+
+  pub end-clipped-plain : {X : List Frame} {r : Run} → EndedSince o X r → r .clipped ≡ plainEndClips (kindsIn o) X
+  end-clipped-plain {X} {r} v =
+      v .clipped
+      ∙ ap (λ (l : List Stage). endClipped (o .format) l X) as-opened ∙ end-clips-are-plain (o .format) (kindsIn o) X suit (legal-parts o (opened .lawful) .channels) (v .frames)
 
   pub end-state-plain : {X : List Frame} {r : Run} → EndedSince o X r → stagesOf (r .chain) ≡ stagesOf o
   end-state-plain v = v .moved .stages ∙ sym (opened .silent)
@@ -111,4 +121,4 @@ module _ (o : Pipeline) (opened : FreshlyOpened o) where
 
   -- the calls on the chain as opened
   pub after-all : (calls : List Call) → All Lent calls → Stands (streamOf o calls) (runOf o calls)
-  after-all calls lent = after-calls (running []) (record { chain = o; joined = [] }) calls (begun o (opened .places)) lent
+  after-all calls lent = after-calls (running []) (fresh o) calls (begun o (opened .places)) lent

@@ -71,15 +71,15 @@ nothing-call : (r : Run) (call : Call) (n : ℕ) → r .chain .«empty_blocks» 
 unfolding blockCall accepted
 nothing-call r (block format t bytes a b) n e = go (blockVerdict (r .chain) format (length bytes) (shorter a b))
   where
-    by-length : (z : Bool) (x : Answer) → oneIfNothing x ≡ 0
-        → cond z (countedUp (r .chain .«empty_blocks»)) (r .chain .«empty_blocks») ≡ heldCount (n + oneIfNothing (cond z answer.NothingYet x))
-    by-length true x h = ap countedUp e ∙ one-more n
-    by-length false x h = rw (h, add-zero) e
+    by-length : (z : Bool) (m : ℕ) (x : Answer) → oneIfNothing x ≡ 0
+        → cond z (countedUp (r .chain .«empty_blocks»)) (r .chain .«empty_blocks») ≡ heldCount (n + oneIfNothing (cond z (answer.NothingYet m) x))
+    by-length true m x h = ap countedUp e ∙ one-more n
+    by-length false m x h = rw (h, add-zero) e
 
     go : (w : Verdict) → concluded w (r .chain) t bytes (record { a = a; b = b }) .chain .«empty_blocks»
         ≡ heldCount (n + oneIfNothing (concluded w (r .chain) t bytes (record { a = a; b = b }) .answer))
     go (Refused x) = rw add-zero e
-    go Accepted = by-length (eqb (outputBytes (r .chain) bytes) 0) _ refl
+    go Accepted = by-length (eqb (outputBytes (r .chain) bytes) 0) _ _ refl
 nothing-call r reset n e = rw add-zero (reset-counters (r .chain) .1 ∙ e)
 nothing-call r (finish a b) n e = finish-counters (r .chain) a b .1 ∙ e ∙ ap heldCount (sym (add-zero n))
 

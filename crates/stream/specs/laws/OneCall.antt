@@ -21,10 +21,10 @@ use Rattle.answers.specs.declared.Half.{Half}
 use Rattle.answers.specs.declared.Half.the-variants as half
 use Rattle.answers.specs.declared.Answer.{Answer}
 use Rattle.answers.specs.declared.Answer.the-variants as answer
-use Rattle.block.specs.Chain.{chainOut, chainNext}
+use Rattle.block.specs.Chain.{chainOut, chainNext, chainClipped}
 use Rattle.block.specs.laws.Chain.{length-chain-next}
 use Rattle.turns.specs.Turns.{Halves}
-use Rattle.block.specs.BlockCall.{Result, put, passed, halvesAfter, accepted}
+use Rattle.block.specs.BlockCall.{Result, put, passed, halvesAfter, outputBytes, blockClipped, accepted}
 use Rattle.answers.specs.Answers.{lastHalf, outputAnswer, frontOf, outputOf}
 use Rattle.pipeline.specs.WritingBack.{stagesOf}
 use Rattle.block.specs.laws.Bounds.{legal-parts}
@@ -33,8 +33,8 @@ use Rattle.answers.specs.declared.FinishAnswer.{FinishAnswer}
 use Rattle.answers.specs.declared.FinishAnswer.the-variants as finish
 use Rattle.answers.specs.FinishAnswers.{finishAnswer}
 use Rattle.ending.specs.StageEnd.{stageEnd}
-use Rattle.finish.specs.FinishCall.{chainEnd, endedHalves, FinishResult, finished}
-use Rattle.stream.specs.Calls.{outputBy, callOutput, finishOutputBy, finishOutput}
+use Rattle.finish.specs.FinishCall.{chainEnd, endClipped, endedHalves, FinishResult, finishBytes, finishClipped, finished}
+use Rattle.stream.specs.Calls.{outputBy, callOutput, finishOutputBy, finishOutput, clippedBy, finishClippedBy}
 use Rattle.stream.specs.OneCall.{sideOf, side, Moved}
 
 put-side : (i n : ℕ) (out : List ℕ) (h : Halves) → n ≡ length out → take n (side i (put i out h)) ≡ out
@@ -93,20 +93,20 @@ handed-back : (bytes : List ℕ) (side : Half) (a b : List ℕ) → take (length
 handed-back bytes half.A a b h = front-is bytes a h
 handed-back bytes half.B a b h = front-is bytes b h
 
-output-is : (bytes : List ℕ) (f : PcmFormat) (t : ℕ) (side : Half) (r : Result) → r .answer ≡ outputAnswer f t side (length bytes) → take (length bytes) (sideOf side (r .a) (r .b)) ≡ bytes
+output-is : (bytes : List ℕ) (f : PcmFormat) (t : ℕ) (side : Half) (clipped : ℕ) (r : Result) → r .answer ≡ outputAnswer f t side (length bytes) clipped → take (length bytes) (sideOf side (r .a) (r .b)) ≡ bytes
     → callOutput r ≡ bytes
-output-is [] f t side r e h = ap (λ (x : Answer). outputBy x r) e
-output-is (x ∷ bytes) f t side r e h =
+output-is [] f t side clipped r e h = ap (λ (x : Answer). outputBy x r) e
+output-is (x ∷ bytes) f t side clipped r e h =
     ap (λ (x : Answer). outputBy x r)
-    (e ∙ ap (λ (b : Bool). cond b answer.NothingYet (answer.Output f t side (length (x ∷ bytes)))) (ne-eqb (length (x ∷ bytes)) 0 (suc-ne-zero (length bytes))))
+    (e ∙ ap (λ (b : Bool). cond b (answer.NothingYet clipped) (answer.Output f t side (length (x ∷ bytes)) clipped)) (ne-eqb (length (x ∷ bytes)) 0 (suc-ne-zero (length bytes))))
     ∙ handed-back (x ∷ bytes) side (r .a) (r .b) h
 
-end-output-is : (bytes : List ℕ) (f : PcmFormat) (side : Half) (r : FinishResult) → r .answer ≡ finishAnswer f side (length bytes) → take (length bytes) (sideOf side (r .a) (r .b)) ≡ bytes
+end-output-is : (bytes : List ℕ) (f : PcmFormat) (side : Half) (clipped : ℕ) (r : FinishResult) → r .answer ≡ finishAnswer f side (length bytes) clipped → take (length bytes) (sideOf side (r .a) (r .b)) ≡ bytes
     → finishOutput r ≡ bytes
-end-output-is [] f side r e h = ap (λ (x : FinishAnswer). finishOutputBy x r) e
-end-output-is (x ∷ bytes) f side r e h =
+end-output-is [] f side clipped r e h = ap (λ (x : FinishAnswer). finishOutputBy x r) e
+end-output-is (x ∷ bytes) f side clipped r e h =
     ap (λ (x : FinishAnswer). finishOutputBy x r)
-    (e ∙ ap (λ (b : Bool). cond b finish.NothingYet (finish.Output f side (length (x ∷ bytes)))) (ne-eqb (length (x ∷ bytes)) 0 (suc-ne-zero (length bytes))))
+    (e ∙ ap (λ (b : Bool). cond b (finish.NothingYet clipped) (finish.Output f side (length (x ∷ bytes)) clipped)) (ne-eqb (length (x ∷ bytes)) 0 (suc-ne-zero (length bytes))))
     ∙ handed-back (x ∷ bytes) side (r .a) (r .b) h
 
 -- ---- the first `count` of eight places, each changed, and the spare ones as they were
@@ -149,8 +149,16 @@ module _ (c : Pipeline) (eight : length (c .stages) ≡ 8) where
     accepted-output bytes =
         let r : Result = accepted c t block (record { a = a; b = b }) in
         let n : c .count ≡ length (stagesOf c) = sym (length-take-le (c .count) (c .stages) (omega (arith, few))) in
-        output-is (bytesOf (chainOut (stagesOf c) xs)) (formatLeaving (c .format) (stagesOf c)) t (lastHalf (c .count)) r refl
+        output-is (bytesOf (chainOut (stagesOf c) xs)) (formatLeaving (c .format) (stagesOf c)) t (lastHalf (c .count)) _ r refl
         (half-holds (stagesOf c) (c .count) xs block (record { a = a; b = b }) n (bytes-frames (c .format .channels) block (w .whole) bytes))
+
+    pub accepted-clipped : clippedBy (accepted c t block (record { a = a; b = b }) .answer) ≡ chainClipped (stagesOf c) xs
+    unfolding accepted
+    accepted-clipped = go (eqb (outputBytes c block) 0)
+      where
+        go : (none : Bool) → clippedBy (cond none (answer.NothingYet (blockClipped c block)) (answer.Output (formatLeaving (c .format) (stagesOf c)) t (lastHalf (c .count)) (outputBytes c block) (blockClipped c block))) ≡ blockClipped c block
+        go true = refl
+        go false = refl
 
   -- reset
   pub reset-moves : c .count ≤ 8 → Moved c (resetCall c) (map stageClear (stagesOf c))
@@ -170,8 +178,16 @@ module _ (c : Pipeline) (eight : length (c .stages) ≡ 8) where
   unfolding finished
   finished-output few a b =
       let n : c .count ≡ length (stagesOf c) = sym (length-take-le (c .count) (c .stages) (omega (arith, few))) in
-      end-output-is (bytesOf (chainEnd (c .format) (stagesOf c) [])) (formatLeaving (c .format) (stagesOf c)) (lastHalf (c .count)) (finished c (record { a = a; b = b })) refl
+      end-output-is (bytesOf (chainEnd (c .format) (stagesOf c) [])) (formatLeaving (c .format) (stagesOf c)) (lastHalf (c .count)) _ (finished c (record { a = a; b = b })) refl
       (end-half-holds (c .format) (stagesOf c) (c .count) (record { a = a; b = b }) n)
+
+  pub finished-clipped : (a b : List ℕ) → finishClippedBy (finished c (record { a = a; b = b }) .answer) ≡ endClipped (c .format) (stagesOf c) []
+  unfolding finished
+  finished-clipped a b = go (eqb (finishBytes c) 0)
+    where
+      go : (none : Bool) → finishClippedBy (cond none (finish.NothingYet (finishClipped c)) (finish.Output (formatLeaving (c .format) (stagesOf c)) (lastHalf (c .count)) (finishBytes c) (finishClipped c))) ≡ finishClipped c
+      go true = refl
+      go false = refl
 
   pub finished-moves : c .count ≤ 8 → (a b : List ℕ) → Moved c (finished c (record { a = a; b = b }) .chain) (map stageClear (stagesOf c))
   unfolding finished

@@ -16,7 +16,7 @@ use Rattle.stream.specs.PlainEnd.{receivedAtEnd}
 use Rattle.stream.specs.Stream.{Stream, running, ended, streamOf, runOf}
 use Rattle.stream.specs.laws.Resamplers.{received-frames, resampler-in-chain, received-at-end-frames, resampler-at-end}
 use Rattle.stream.specs.FromChain.{Since, EndedSince}
-use Rattle.stream.specs.laws.AfterCalls.{Stands, as-opened, suit, state-plain, output-plain, end-state-plain, end-output-plain, verdict-plain, finish-plain, stands-within, after-all}
+use Rattle.stream.specs.laws.AfterCalls.{Stands, as-opened, suit, state-plain, output-plain, clipped-plain, end-state-plain, end-output-plain, end-clipped-plain, verdict-plain, finish-plain, stands-within, after-all}
 use Rattle.stream.specs.WholeStream.{RunningStream, EndedStream, WholeStream}
 
 module _ (o : Pipeline) (opened : FreshlyOpened o) where
@@ -27,6 +27,7 @@ module _ (o : Pipeline) (opened : FreshlyOpened o) where
   running-stream {X} {r} v = record {
     output = output-plain o opened v;
     state = state-plain o opened v;
+    clipped = clipped-plain o opened v;
     frames = λ i. subst (λ (l : List Stage). FramesOf (formatLeaving (o .format) (take i l) .channels) (receivedBy i (kindsIn o) X)) (sym (as-opened o opened))
         (received-frames (o .format) (kindsIn o) X (suit o opened) two-channels (v .frames) i);
     resamplers = resampler-in-chain (o .format) (kindsIn o) X (suit o opened) two-channels (v .frames) (opened .rates);
@@ -36,6 +37,7 @@ module _ (o : Pipeline) (opened : FreshlyOpened o) where
   ended-stream {X} {r} v = record {
     output = end-output-plain o opened v;
     state = end-state-plain o opened v;
+    clipped = end-clipped-plain o opened v;
     frames = λ i. subst (λ (l : List Stage). FramesOf (formatLeaving (o .format) (take i l) .channels) (receivedAtEnd i (kindsIn o) X)) (sym (as-opened o opened))
         (received-at-end-frames (o .format) (kindsIn o) X (suit o opened) two-channels (v .frames) i);
     resamplers = resampler-at-end (o .format) (kindsIn o) X (suit o opened) two-channels (v .frames) (opened .rates);

@@ -51,7 +51,7 @@ turn-spec = tie.close (tie.spec
     biquad-turn-asks (s .args .format) (s .args .s) (s .pre) _ (t .kind4 .given .1))
     (λ c. search needs) (λ c. search needs)
     (λ c. let d = c .before .before .before .before in let t = d .before .before .before .before in let s = start (t .before .before) in
-    gain-turned (s .args .format) (s .args .s) (s .pre) _ _ (t .kind .given .1) (d .gain-turn .ensures))
+    gain-turned (s .args .format) (s .args .s) (s .pre) _ _ _ (t .kind .given .1) (d .gain-turn .ensures))
     (λ c. search needs) (λ c. search needs)
     (λ c. let d = c .before .before .before .before in let t = d .before .before .before in let s = start (t .before .before) in
     stereo-turned (s .args .format) (s .args .s) (s .pre) _ (t .enum-told .given .1) (d .stereo-turn .ensures))
@@ -62,8 +62,8 @@ turn-spec = tie.close (tie.spec
     (λ c. let d = c .before .before .before .before .before .before in let m = d .before .before .before in let t = m .before .before in let s = start (t .before .before) in
     resample-turned (s .args .format) (s .args .s) (s .pre) _ _ (t .kind2 .given .1) (m .held-samples .ensures .0) (m .held-samples .ensures .1) (d .resample-turn .result) _ (d .resample-turn .ensures))
     (λ c. search needs) (λ c. search needs)
-    (λ c. let d = c .before .before .before .before in let t = d .before .before .before .before in let s = start (t .before .before) in
+    (λ c. let d = c .before .before .before .before .before in let t = d .before .before .before .before in let s = start (t .before .before) in
     dc-turned (s .args .format) (s .args .s) (s .pre) _ _ _ (t .kind3 .given .1) (d .dc-turn .ensures))
     (λ c. search needs) (λ c. search needs)
-    (λ c. let d = c .before .before .before .before in let t = d .before .before .before .before in let s = start (t .before .before) in
+    (λ c. let d = c .before .before .before .before .before in let t = d .before .before .before .before in let s = start (t .before .before) in
     biquad-turned (s .args .format) (s .args .s) (s .pre) _ _ _ (t .kind4 .given .1) (d .biquad-turn .ensures)))

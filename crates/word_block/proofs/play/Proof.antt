@@ -19,7 +19,7 @@ use Rattle.stage_words.specs.laws.HeldParts.{held-past, held-within}
 use Rattle.chain_words.specs.Layout.{counterWords, counterAt, chainAt}
 use Rattle.chain_words.specs.laws.Chains.{stands-long, stands-chain}
 use Rattle.word_block.proofs.Moved.{Moved, moved-none, moved-put}
-use Rattle.word_block.proofs.Placing.{copy-fits, asks-at, plays-next, same-long, plays-begin, stays, plays-end}
+use Rattle.word_block.proofs.Placing.{copy-fits, asks-at, sum-at, plays-next, same-long, plays-begin, stays, plays-end}
 use Rattle.word_block.proofs.play.Statement.{statement}
 use Rattle.word_block.proofs.play.Tie as tie
 
@@ -31,11 +31,11 @@ pub record Playing (words₀ : List ℕ) (count : ℕ) (p : Type 0) (words : Lis
   pub long : 152 ≤ length words
 
 abbrev Inv-loop : tie.InvT-loop
-Inv-loop words₀ timestamp sound a₀ b₀ count reaching₀ len₀ i₀ words a b reaching len i =
-    Playing words₀ count (Plays (chainAt words₀) count reaching₀ sound (halves a₀ b₀) (shorter a₀ b₀) (chainAt words) reaching len i (halves a b)) words
+Inv-loop words₀ timestamp sound a₀ b₀ count reaching₀ len₀ clipped₀ i₀ words a b reaching len clipped i =
+    Playing words₀ count (Plays (chainAt words₀) count reaching₀ sound (halves a₀ b₀) (shorter a₀ b₀) (chainAt words) reaching len i (halves a b) clipped) words
 
 abbrev μ-loop : tie.MeasureT-loop
-μ-loop words₀ timestamp sound a₀ b₀ count reaching₀ len₀ i₀ words a b reaching len i = count - i
+μ-loop words₀ timestamp sound a₀ b₀ count reaching₀ len₀ clipped₀ i₀ words a b reaching len clipped i = count - i
 
 module _ (c : tie.After-slice-known3 Inv-loop μ-loop) where
   abbrev s : tie.Start Inv-loop μ-loop
@@ -78,7 +78,7 @@ loop-holds c =
 -- ---- one stage
 loop-again : tie.Need-loop-again Inv-loop μ-loop
 loop-again c =
-    let p = c .before .before .before .before in
+    let p = c .before .before .before .before .before in
     let t = p .before .before .before .before .before .before .before in
     let m = t .before .before .before in
     let k = m .before .before in
@@ -90,7 +90,7 @@ loop-again c =
     let kind = k .kind-at .result in
     let memory = t .turn .result .memory in
     record {
-      plays = plays-next w i _ _ (k .kind-at .ensures .0) (m .memory-at .ensures .0) _ _ _ _ _ _ _ _ _ (v .plays) (il .loop-test .taken) (k .kind-at .ensures .1) (m .memory-at .ensures .1) (v .long) _ _ _ _
+      plays = plays-next w i _ _ (k .kind-at .ensures .0) (m .memory-at .ensures .0) _ _ _ _ _ _ _ _ _ _ (v .plays) (il .loop-test .taken) (k .kind-at .ensures .1) (m .memory-at .ensures .1) (v .long) _ _ _ _ _
           (t .turn .ensures) (c .before .format-after .ensures) (q .1) _ (q .0) _ (c .next-stage .ensures);
       moved = subst (Moved _) (sym (q .0)) (moved-put w i (heldAt kind) (heldWords kind memory) (held-past kind) (held-within kind memory) _ (v .moved) (omega (arith, v .used, il .loop-test .taken)));
       used = v .used;
@@ -112,9 +112,9 @@ returns c =
     let a = s k .args in
     let v = l c .loop .inv in (
       plays-end (a .words .now) (a .sound .now) (a .a .now) (a .b .now) _ _ _ (takes k) (bytes k) (numbered b .count-of .ensures) (formed b .format-of .ensures) (copied b .copy-unstaged .ensures)
-          _ _ _ _ _ _ _ (v .plays) (done c .before .before .loop-test .left) (s k .pre .0) (v .moved) (done c .count-block .ensures) (a .timestamp) _ (c .answered .ensures),
+          _ _ _ _ _ _ _ _ (v .plays) (done c .before .before .loop-test .left) (s k .pre .0) (v .moved) (done c .count-block .ensures) (a .timestamp) _ (c .answered .ensures),
       stays (a .words .now) (a .sound .now) (a .a .now) (a .b .now) _ _ _ (takes k) (bytes k) (numbered b .count-of .ensures) (formed b .format-of .ensures) (copied b .copy-unstaged .ensures)
-          _ _ _ _ _ _ _ (v .plays) (done c .before .before .loop-test .left) (s k .pre .0) (v .moved) (done c .count-block .ensures),
+          _ _ _ _ _ _ _ _ (v .plays) (done c .before .before .loop-test .left) (s k .pre .0) (v .moved) (done c .count-block .ensures),
     )
 
 same-length-2 : tie.Need-same-length-2 Inv-loop μ-loop
@@ -139,13 +139,27 @@ play-spec = tie.close (tie.spec
     let m = c .before .before in
     let k = m .before .before in
     let il = k .before .before in
-    asks-at _ _ _ _ (k .kind-at .ensures .0) (m .memory-at .ensures .0) _ _ _ _ _ _ _ _ _ (il .before .loop .inv .plays) (il .loop-test .taken))
+    asks-at _ _ _ _ (k .kind-at .ensures .0) (m .memory-at .ensures .0) _ _ _ _ _ _ _ _ _ _ (il .before .loop .inv .plays) (il .loop-test .taken))
     (λ c κs.
     let il = c .before .before .before .before .before .before .before .before .before .before .before .before .before in
     (omega (arith, il .before .loop .inv .plays .few, il .loop-test .taken), il .before .loop .inv .long))
-    (λ c κs. search needs) (λ c κs. search needs)
     (λ c.
+    let t = c .before .before .before .before .before .before .before .before .before .before in
+    let m = t .before .before .before in
+    let k = m .before .before in
+    let il = k .before .before in
+    record {
+      fits = omega (
+        arith,
+        sum-at _ _ _ _ (k .kind-at .ensures .0) (m .memory-at .ensures .0) _ _ _ _ _ _ _ _ _ _ (il .before .loop .inv .plays) (il .loop-test .taken) (t .turn .ensures .does .holds),
+      );
+    })
+    (λ c κs. search needs)
+    (λ c κs.
     let t = c .before .before .before .before .before .before .before .before .before .before .before in
+    t .before .before .before .before .before .before .before .loop-test .taken)
+    (λ c.
+    let t = c .before .before .before .before .before .before .before .before .before .before .before .before in
     let il = t .before .before .before .before .before .before .before in
     next-less (il .before .loop .i) _ (t .turn .result .len) _ (il .loop-test .taken) (c .next-stage .ensures))
     loop-again
