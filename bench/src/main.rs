@@ -1,6 +1,8 @@
 //! Each block function against the same function of the unchanged source: same input, aligned buffers, both sides
-//! in turn in one run, the best of many, as ratios of times (ours to the source's).
+//! in turn in one run, the best of many, as ratios of times (ours to the source's). Ours counts the samples it holds back, the
+//! source nothing.
 
+mod counts;
 mod kernels;
 mod stages;
 mod timing;

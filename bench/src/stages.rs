@@ -1,7 +1,7 @@
 //! The cases: each stage of the source, and ours.
 
-use crate::kernels;
-use crate::timing::{Case, Side};
+use crate::timing::{Case, Source, Wrote};
+use crate::{counts, kernels};
 use oracle::elements::{Biquad, BiquadKind, Coefficients, DcBlock, Gain, LinearResampler, MonoToStereo, StereoToMono, mix_i16};
 use oracle::esp_core::pcm::{PcmBlock, PcmFormat, SampleFormat};
 use oracle::pipeline::Element;
@@ -24,13 +24,14 @@ fn gain(name: &'static str, q15: i32, goal: f64) -> Case {
         goal: [None, Some(goal), Some(goal)],
         source: Box::new(move |input, out| process(&mut *stage.borrow_mut(), 1, input, out)),
         ours: Box::new(move |input, out| kernels::gain(q15, input, out)),
+        clipped: Box::new(move |input| counts::gain(q15, input)),
     }
 }
 
 const RATE: u32 = 16_000;
 
 /// A stage of the source that starts each block from silence.
-fn from_silence(rate: u32, channels: u16, stage: impl Element + 'static) -> Side {
+fn from_silence(rate: u32, channels: u16, stage: impl Element + 'static) -> Source {
     let stage = RefCell::new(stage);
     Box::new(move |input, out| {
         let stage = &mut *stage.borrow_mut();
@@ -44,9 +45,10 @@ fn dc_block(name: &'static str, channels: u16) -> Case {
     Case {
         name,
         channels: channels.into(),
-        goal: [None, Some(1.0), Some(1.0)],
+        goal: [None, Some(0.9), Some(0.9)],
         source: from_silence(RATE, channels, DcBlock::new()),
         ours: Box::new(move |input, out| kernels::dc_block(r, channels.into(), input, out)),
+        clipped: Box::new(move |input| counts::dc_block(r, channels.into(), input)),
     }
 }
 
@@ -56,9 +58,10 @@ fn biquad(name: &'static str, channels: u16) -> Case {
     Case {
         name,
         channels: channels.into(),
-        goal: [None, Some(1.0), Some(1.0)],
+        goal: [None, Some(0.9), Some(0.9)],
         source: from_silence(RATE, channels, Biquad::new(kind)),
         ours: Box::new(move |input, out| kernels::biquad(k, channels.into(), input, out)),
+        clipped: Box::new(move |input| counts::biquad(k, channels.into(), input)),
     }
 }
 
@@ -71,13 +74,19 @@ fn resample(name: &'static str, given: [u32; 2], channels: u16) -> Case {
         goal,
         source: from_silence(given[0], channels, LinearResampler::new(given[0], given[1]).unwrap()),
         ours: Box::new(move |input, out| kernels::resample(rates, channels.into(), input, out)),
+        clipped: Box::new(|_| 0),
     }
 }
 
-type Run = fn(&[u8], &mut [u8]) -> usize;
+type Run<T> = fn(&[u8], &mut [u8]) -> T;
 
-fn channel_stage(name: &'static str, channels: usize, source: Run, ours: Run) -> Case {
-    Case { name, channels, goal: [None, Some(1.1), Some(1.1)], source: Box::new(source), ours: Box::new(ours) }
+fn channel_stage(name: &'static str, channels: usize, source: Run<usize>, ours: Run<Wrote>) -> Case {
+    Case { name, channels, goal: [None, Some(1.1), Some(1.1)], source: Box::new(source), ours: Box::new(ours), clipped: Box::new(|_| 0) }
+}
+
+/// The two streams of a mix.
+fn halves(input: &[u8]) -> (&[u8], &[u8]) {
+    input.split_at(input.len() / 2)
 }
 
 pub fn all() -> Vec<Case> {
@@ -96,26 +105,30 @@ pub fn all() -> Vec<Case> {
         dc_block("DC block, stereo", 2),
         biquad("biquad, mono", 1),
         biquad("biquad, stereo", 2),
-        gain("gain 16,384", 16_384, 1.1),
-        gain("gain 65,535", 65_535, 1.1),
-        gain("gain -65,535", -65_535, 1.1),
+        gain("gain 16,384", 16_384, 0.95),
+        gain("gain 65,535", 65_535, 0.95),
+        gain("gain -65,535", -65_535, 0.95),
         gain("gain 32,768 (copy)", 32_768, 1.1),
-        gain("gain 65,536 (wide)", 65_536, 1.0),
-        gain("gain 33,554,432 (wide)", 33_554_432, 1.0),
+        gain("gain 65,536 (wide)", 65_536, 0.45),
+        gain("gain 33,554,432 (wide)", 33_554_432, 0.45),
         channel_stage("mono to stereo", 1, |input, out| process(&mut MonoToStereo, 1, input, out), kernels::mono_to_stereo),
         channel_stage("stereo to mono", 2, |input, out| process(&mut StereoToMono, 2, input, out), kernels::stereo_to_mono),
         Case {
             name: "mix",
             channels: 2,
-            goal: [None, Some(1.1), Some(1.1)],
+            goal: [None, Some(0.4), Some(0.4)],
             source: Box::new(|input, out| {
-                let (a, b) = input.split_at(input.len() / 2);
+                let (a, b) = halves(input);
                 mix_i16(a, b, out).unwrap();
                 a.len()
             }),
             ours: Box::new(|input, out| {
-                let (a, b) = input.split_at(input.len() / 2);
+                let (a, b) = halves(input);
                 kernels::mix(a, b, out)
+            }),
+            clipped: Box::new(|input| {
+                let (a, b) = halves(input);
+                counts::mix(a, b)
             }),
         },
     ]

@@ -7,17 +7,28 @@ pub const FRAMES: [usize; 3] = [16, 1024, 8192];
 const ROUNDS: usize = 400;
 const ROUND_NS: u128 = 40_000;
 
-/// One side's block function.
-pub type Side = Box<dyn Fn(&[u8], &mut [u8]) -> usize>;
+/// The source's block function: the bytes it wrote.
+pub type Source = Box<dyn Fn(&[u8], &mut [u8]) -> usize>;
 
-/// A block function of both sides, over the same bytes. Each run returns the bytes it wrote.
+/// Ours: the bytes it wrote, and how many samples it held back.
+pub type Ours = Box<dyn Fn(&[u8], &mut [u8]) -> Wrote>;
+
+#[derive(Clone, Copy, Debug, PartialEq)]
+pub struct Wrote {
+    pub bytes: usize,
+    pub clipped: usize,
+}
+
+/// A block function of both sides, over the same bytes. The source's counts nothing.
 pub struct Case {
     pub name: &'static str,
     pub channels: usize,
     /// The largest ratio allowed at each of `FRAMES`, where there is one.
     pub goal: [Option<f64>; 3],
-    pub source: Side,
-    pub ours: Side,
+    pub source: Source,
+    pub ours: Ours,
+    /// How many samples are held back, counted plainly.
+    pub clipped: Box<dyn Fn(&[u8]) -> usize>,
 }
 
 /// Bytes at an address that an i16 may have.
@@ -46,7 +57,7 @@ fn sound(out: &mut [u8]) {
     }
 }
 
-fn once(run: &dyn Fn(&[u8], &mut [u8]) -> usize, input: &[u8], out: &mut [u8], times: u32) -> f64 {
+fn once<T>(run: &dyn Fn(&[u8], &mut [u8]) -> T, input: &[u8], out: &mut [u8], times: u32) -> f64 {
     let start = Instant::now();
     for _ in 0..times {
         black_box(run(black_box(input), black_box(&mut *out)));
@@ -62,7 +73,7 @@ pub fn row(case: &Case, frames: usize) -> bool {
     let (input, theirs, ours) = (a.bytes(len), b.bytes(room), c.bytes(room));
     sound(input);
     let n = (case.source)(input, theirs);
-    assert_eq!(n, (case.ours)(input, ours), "{}: lengths differ", case.name);
+    assert_eq!(Wrote { bytes: n, clipped: (case.clipped)(input) }, (case.ours)(input, ours), "{}: lengths or counts differ", case.name);
     assert_eq!(theirs[..n], ours[..n], "{}: bytes differ", case.name);
 
     let mut times = 1;
@@ -79,7 +90,7 @@ pub fn row(case: &Case, frames: usize) -> bool {
     let met = goal.is_none_or(|g| ratio <= g);
     let said = match goal {
         None => "-".into(),
-        Some(g) => format!("{g:.1} {}", if met { "met" } else { "MISSED" }),
+        Some(g) => format!("{g:.2} {}", if met { "met" } else { "MISSED" }),
     };
     println!("{:<34} {frames:>7} {:>11.1} {:>11.1} {ratio:>7.2}  {said}", case.name, best[0], best[1]);
     met

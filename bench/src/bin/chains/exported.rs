@@ -17,6 +17,7 @@ struct BlockResult {
     timestamp: u64,
     half: u8,
     len: usize,
+    clipped: usize,
 }
 
 #[link(name = "muzgleur", kind = "static")]
@@ -37,22 +38,25 @@ unsafe extern "C" {
     ) -> BlockResult;
 }
 
-struct Words([u32; CHAIN_WORDS]);
+struct Words {
+    chain: [u32; CHAIN_WORDS],
+    clipped: u64,
+}
 
 impl Words {
     fn open(rate: u32, channels: u16, recipe: &[u8]) -> Self {
-        let mut words = [0; CHAIN_WORDS];
+        let mut chain = [0; CHAIN_WORDS];
         // SAFETY: the slices are live and apart, and the function requires nothing else.
-        let number = unsafe { muzgleur_open(rate, channels, recipe.as_ptr(), recipe.len(), words.as_mut_ptr(), words.len()) };
+        let number = unsafe { muzgleur_open(rate, channels, recipe.as_ptr(), recipe.len(), chain.as_mut_ptr(), chain.len()) };
         assert_eq!(number, 0, "opening refused");
-        Words(words)
+        Words { chain, clipped: 0 }
     }
 }
 
 impl Player for Words {
     fn play<'b>(&mut self, block: PcmBlock<'_>, halves: &'b mut [u8]) -> Option<PcmBlock<'b>> {
         let PcmBlock { format, timestamp, data } = block;
-        let (words, (a, b)) = (&mut self.0, halves.split_at_mut(halves.len() / 2));
+        let (words, (a, b)) = (&mut self.chain, halves.split_at_mut(halves.len() / 2));
         // SAFETY: as above.
         let done = unsafe {
             muzgleur_block(
@@ -70,9 +74,14 @@ impl Player for Words {
             )
         };
         assert_eq!(done.number, 0, "block refused, {} bytes needed", done.needed);
+        self.clipped += done.clipped as u64;
         let format = PcmFormat { sample_rate_hz: done.rate, channels: done.channels, sample: SampleFormat::I16 };
         let half = if done.half == 0 { a } else { b };
         (done.outcome == SOUND).then(|| PcmBlock { format, timestamp: done.timestamp, data: &half[..done.len] })
+    }
+
+    fn clipped(&self) -> Option<u64> {
+        Some(self.clipped)
     }
 }
 

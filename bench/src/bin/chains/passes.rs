@@ -7,6 +7,11 @@ use oracle::esp_core::pcm::{PcmBlock, PcmFormat, SampleFormat};
 pub trait Player {
     /// What a block brings, in one of the two halves.
     fn play<'b>(&mut self, block: PcmBlock<'_>, halves: &'b mut [u8]) -> Option<PcmBlock<'b>>;
+
+    /// Samples held back so far, where they are counted.
+    fn clipped(&self) -> Option<u64> {
+        None
+    }
 }
 
 struct Tally {
@@ -57,4 +62,7 @@ pub fn run(chain: Chain, frames: usize, times: u32, mut player: impl Player) {
         }
     }
     println!("{} frames, checksum {}", tally.frames, tally.checksum);
+    if let Some(clipped) = player.clipped() {
+        println!("{clipped} clipped");
+    }
 }
