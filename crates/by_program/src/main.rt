@@ -1,9 +1,11 @@
 // Document 01, 'By program', and document 02's finish: what the calls answer. One line for each: what was asked, then 0 or the refusal's
-// number, then bytes; and the last sample of what a finish delivers.
+// number, then bytes; and the last sample of what a finish delivers. Then rates divided by their greatest common divisor.
 use answers::Answer;
 use answers::FinishAnswer;
 use pcm::PcmFormat;
 use pipeline::Pipeline;
+use rates::LinearResampler;
+use rates::NewResampler;
 
 // A label, a refusal's number or 0, and a count of bytes.
 fn line(label: &[u8], number: u16, bytes: usize) {
@@ -244,6 +246,34 @@ fn stages(nine: &[u8]) {
     opens(b"nine stages", format, nine);
 }
 
+// in_r and out_r, or the refusal's number.
+fn reduced(label: &[u8], in_rate: u32, out_rate: u32) {
+    let made = LinearResampler::new(in_rate, out_rate);
+    match made {
+        NewResampler::Made(r) => {
+            io::write_all(1, label);
+            io::write_all(1, b": ");
+            io::print_decimal(1, r.in_r);
+            io::write_all(1, b" to ");
+            io::print_decimal(1, r.out_r);
+            io::write_all(1, b"\n");
+        }
+        NewResampler::Refused(e) => line(label, e.number(), 0),
+    }
+}
+
+// The divisor search ends at a remainder of 0 or of 1, soon or as late as any two rates make it, and takes none by a rate of 1.
+fn divisors() {
+    reduced(b"44,100 to 16,000", 44100, 16000);
+    reduced(b"6 to 4", 6, 4);
+    reduced(b"48,001 to 16,000", 48001, 16000);
+    reduced(b"383,999 to 384,000", 383999, 384000);
+    reduced(b"196,418 to 317,811", 196418, 317811);
+    reduced(b"1 to 384,000", 1, 384000);
+    reduced(b"384,000 to 1", 384000, 1);
+    reduced(b"384,001 to 1", 384001, 1);
+}
+
 fn main() {
     upsampled();
     halved();
@@ -252,4 +282,5 @@ fn main() {
     stages(
         b"\x06\x00\x01\x00\x00\x40\x00\x00\x06\x00\x01\x00\x00\x40\x00\x00\x06\x00\x01\x00\x00\x40\x00\x00\x06\x00\x01\x00\x00\x40\x00\x00\x06\x00\x01\x00\x00\x40\x00\x00\x06\x00\x01\x00\x00\x40\x00\x00\x06\x00\x01\x00\x00\x40\x00\x00\x06\x00\x01\x00\x00\x40\x00\x00\x06\x00\x01\x00\x00\x40\x00\x00",
     );
+    divisors();
 }

@@ -8,8 +8,9 @@ use borrow.Author.Tests.{eqb-true}
 use lib.Dec.{eqb}
 use Rattle.rates.specs.Counting.{ceilDiv}
 use Rattle.rates.specs.laws.Counting.{ceil-reach, ceil-least}
-use Rattle.rates.specs.Divisor.{gcd}
+use Rattle.rates.specs.Divisor.{gcd, remaindersTo}
 use Rattle.rates.specs.laws.Divisor.{gcd-is, gcd-positive}
+use Rattle.rates.specs.laws.Search.{saves}
 use Rattle.rates.specs.Rates.{carriedCount, resampledCount, roomFrames, Rates}
 use Rattle.rates.specs.laws.Rates.{room-reaches, carried-in-room}
 use Rattle.rates.specs.declared.LinearResampler.{LinearResampler}
@@ -17,6 +18,10 @@ use Rattle.rates.specs.declared.LinearResampler.{LinearResampler}
 -- the greatest common divisor is the largest common divisor
 pub gcd-largest : (a b : ℕ) → 0 < a → (d : ℕ) → d ∣ a → d ∣ b → d ≤ gcd a b
 gcd-largest a b h d u v = le-of-dvd (gcd-positive a b h) (gcd-is a b h .greatest d u v)
+
+-- rates without a common divisor reach a remainder of 1 one step before 0; of others the search takes as many as to 0
+pub coprime-saves-one : (a b : ℕ) → 0 < a → 0 < b → remaindersTo 0 a b ≡ remaindersTo 1 a b + cond (eqb (gcd a b) 1) 1 0
+coprime-saves-one = saves
 
 -- in_r and out_r have no common divisor but 1
 pub reduced-coprime : (a b : ℕ) → 0 < a → (d : ℕ) → d ∣ a / gcd a b → d ∣ b / gcd a b → d ≡ 1

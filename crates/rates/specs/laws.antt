@@ -1,3 +1,4 @@
 pub mod Counting
 pub mod Divisor
 pub mod Rates
+pub mod Search

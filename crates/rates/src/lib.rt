@@ -1,6 +1,6 @@
 // A resampler's rates, and the frames that it wants and delivers, from the phase alone (resample.rs).
 ghost use mathlib.Core.Path.{_≡_};
-ghost use Prim.Native.Nat.{_+_, _*_, _/_, _<_, _^_};
+ghost use Prim.Native.Nat.{_+_, _*_, _/_, _%_, _<_, _^_};
 ghost use Rattle.pcm.specs.Refusals.{valued};
 ghost use Rattle.rates.specs.Answers.{newTold, ratesTold, newVerdict, maxTold, maxVerdict};
 ghost use Rattle.rates.specs.Divisor.{gcd};
@@ -79,19 +79,46 @@ impl ResamplerState {
     }
 }
 
-// The greatest common divisor.
-fn gcd(x: u64, y: u64) -> u64
+// What a division by more than 1 leaves.
+fn remainder(a: u32, b: u32) -> u32
+    requires { ⌜ 1 < b ⌝ }
+    ensures { λ r. ⌜ r ≡ a % b ⌝ }
+{
+    a % b
+}
+
+// The greatest common divisor. The search stops at a remainder of 1 or 0, and before any where y is 1.
+fn gcd(x: u32, y: u32) -> u32
     requires { ⌜ (0 < x) × (0 < y) ⌝ }
     ensures { λ r. ⌜ r ≡ gcd x y ⌝ }
 {
+    if y == 1 {
+        return 1;
+    }
     let mut a = x;
     let mut b = y;
-    while b != 0 {
-        let t = a % b;
+    loop {
+        let t = remainder(a, b);
+        if t == 1 {
+            break 1;
+        }
+        if t == 0 {
+            break b;
+        }
         a = b;
         b = t;
     }
-    a
+}
+
+// A rate divided by a divisor, with no division where that is 1.
+fn quotient(rate: u32, divisor: u32) -> u32
+    requires { ⌜ 0 < divisor ⌝ }
+    ensures { λ r. ⌜ r ≡ rate / divisor ⌝ }
+{
+    if divisor == 1 {
+        return rate;
+    }
+    rate / divisor
 }
 
 // Are both rates within the limit?
@@ -121,12 +148,12 @@ impl LinearResampler {
         ensures told { λ r. ⌜ newTold r ≡ ratesTold (newVerdict «in_rate» «out_rate») («in_rate» / gcd «in_rate» «out_rate») («out_rate» / gcd «in_rate» «out_rate») ⌝ }
     {
         if rates_allowed(in_rate, out_rate) {
-            let g = gcd(in_rate as u64, out_rate as u64);
+            let g = gcd(in_rate, out_rate);
             return NewResampler::Made(LinearResampler {
                 in_rate: in_rate,
                 out_rate: out_rate,
-                in_r: (in_rate as u64) / g,
-                out_r: (out_rate as u64) / g,
+                in_r: quotient(in_rate, g) as u64,
+                out_r: quotient(out_rate, g) as u64,
             });
         }
         NewResampler::Refused(Error::InvalidFormat)

@@ -2,7 +2,7 @@
 use mathlib.Core.Path.{_≡_, refl, sym, subst}
 use mathlib.Core.Bool.{Bool, true, false, cond}
 use Prim.Native.Nat.{ℕ, zero, suc, _*_, _/_, _%_, _≤_, _<_, _∣_, suc-le-suc, zero-le}
-use native.Mathlib.Nat.{le-refl, le-antisymm, not-suc-le-zero, mod-lt, div-le-self, dvd-refl, dvd-zero, dvd-mod-iff, le-of-dvd, pos-of-dvd-of-pos, mod-eq-zero-of-dvd, dvd-of-mod-eq-zero, div-mul-cancel}
+use native.Mathlib.Nat.{le-refl, le-antisymm, not-suc-le-zero, mod-lt, div-le-self, dvd-refl, dvd-zero, one-dvd, dvd-mod-iff, le-of-dvd, pos-of-dvd-of-pos, mod-eq-zero-of-dvd, dvd-of-mod-eq-zero, div-mul-cancel}
 use native.Mathlib.Omega.{arith}
 use lib.Dec.{eqb}
 use borrow.Author.Tests.{eqb-true, eqb-false}
@@ -18,6 +18,9 @@ gcd-step {a} {b} {g} r = record {
 
 pub gcd-zero : (a : ℕ) → GreatestCommonDivisor a 0 a
 gcd-zero a = record { first = dvd-refl a; second = dvd-zero a; greatest = λ d u v. u }
+
+pub gcd-one : (a : ℕ) → GreatestCommonDivisor a 1 1
+gcd-one a = record { first = one-dvd a; second = dvd-refl 1; greatest = λ d u v. v }
 
 euclid : (f a b : ℕ) → b ≤ f → (g : ℕ) × GreatestCommonDivisor a b g
 euclid zero a zero h = (a, gcd-zero a)

@@ -20,7 +20,10 @@ positive c =
 
 returns : tie.Need-returns
 unfolding resamplerOf reduced
-returns c = let a = c .before .before .before .args in new-answered (a .in-rate) (a .out-rate) (rw (allowed (c .before), c .gcd .ensures))
+returns c =
+    let g = c .before .before in
+    let a = g .before .before .before .args in
+    new-answered (a .in-rate) (a .out-rate) (rw (allowed (g .before), c .before .quotient .ensures, c .quotient2 .ensures, g .gcd .ensures))
 
 returns-2 : tie.Need-returns-2
 unfolding resamplerOf
@@ -29,4 +32,4 @@ returns-2 c = let a = c .before .before .args in new-answered (a .in-rate) (a .o
 pub new-spec : {M : Type 1} → statement M
 new-spec = tie.close (tie.spec (λ c κs. search needs)
     (λ c κs. let k = rates-within (c .before .before .args .in-rate) (c .before .before .args .out-rate) (allowed c) in (k .0 .0, k .1 .0))
-    positive positive returns returns-2)
+    (λ c κs. positive c) (λ c. search needs) (λ c κs. positive (c .before)) (λ c. search needs) returns returns-2)
