@@ -3,9 +3,21 @@
 use crate::timing::Wrote;
 use oracle::elements::Coefficients;
 
+/// 0 and the reduced rates, or the refusal's number.
+#[derive(Debug, PartialEq)]
+#[repr(C)]
+pub struct RatesResult {
+    pub number: u16,
+    pub in_r: u64,
+    pub out_r: u64,
+}
+
 mod raw {
+    use super::RatesResult;
+
     #[link(name = "kernels", kind = "static")]
     unsafe extern "C" {
+        pub fn new_resampler(in_rate: u32, out_rate: u32) -> RatesResult;
         pub fn gain_block(q15: i32, input: *const u8, len: usize, out: *mut u8, room: usize) -> usize;
         pub fn mono_to_stereo_block(input: *const u8, len: usize, out: *mut u8, room: usize);
         pub fn stereo_to_mono_block(input: *const u8, len: usize, out: *mut u8, room: usize);
@@ -107,6 +119,11 @@ impl Rates {
     fn room(self, frames: usize) -> usize {
         (frames * self.given[1] as usize).div_ceil(self.given[0] as usize) + 1
     }
+}
+
+pub fn new_resampler([in_rate, out_rate]: [u32; 2]) -> RatesResult {
+    // SAFETY: the function requires nothing.
+    unsafe { raw::new_resampler(in_rate, out_rate) }
 }
 
 pub fn resample(rates: Rates, channels: usize, input: &[u8], out: &mut [u8]) -> Wrote {

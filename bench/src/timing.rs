@@ -57,12 +57,37 @@ fn sound(out: &mut [u8]) {
     }
 }
 
-fn once<T>(run: &dyn Fn(&[u8], &mut [u8]) -> T, input: &[u8], out: &mut [u8], times: u32) -> f64 {
+/// Nanoseconds of one run, over so many.
+fn once(run: &mut impl FnMut(), times: u32) -> f64 {
     let start = Instant::now();
-    for _ in 0..times {
-        black_box(run(black_box(input), black_box(&mut *out)));
-    }
+    (0..times).for_each(|_| run());
     start.elapsed().as_nanos() as f64 / f64::from(times)
+}
+
+/// The best nanoseconds of the source and of ours, in turn.
+pub fn best(mut source: impl FnMut(), mut ours: impl FnMut()) -> [f64; 2] {
+    let mut times = 1;
+    while once(&mut source, times) * f64::from(times) < ROUND_NS as f64 && times < 1 << 16 {
+        times *= 2;
+    }
+    let mut best = [f64::MAX; 2];
+    for _ in 0..ROUNDS {
+        best[0] = best[0].min(once(&mut source, times));
+        best[1] = best[1].min(once(&mut ours, times));
+    }
+    best
+}
+
+/// Prints a row, and says whether its goal is met.
+pub fn print(name: &str, frames: &str, best: [f64; 2], goal: Option<f64>) -> bool {
+    let ratio = best[1] / best[0];
+    let met = goal.is_none_or(|g| ratio <= g);
+    let said = match goal {
+        None => "-".into(),
+        Some(g) => format!("{g:.2} {}", if met { "met" } else { "MISSED" }),
+    };
+    println!("{name:<34} {frames:>7} {:>11.1} {:>11.1} {ratio:>7.2}  {said}", best[0], best[1]);
+    met
 }
 
 /// Times one case, prints its row, and says whether its goal is met.
@@ -76,22 +101,10 @@ pub fn row(case: &Case, frames: usize) -> bool {
     assert_eq!(Wrote { bytes: n, clipped: (case.clipped)(input) }, (case.ours)(input, ours), "{}: lengths or counts differ", case.name);
     assert_eq!(theirs[..n], ours[..n], "{}: bytes differ", case.name);
 
-    let mut times = 1;
-    while once(&case.source, input, theirs, times) * f64::from(times) < ROUND_NS as f64 && times < 1 << 16 {
-        times *= 2;
-    }
-    let mut best = [f64::MAX; 2];
-    for _ in 0..ROUNDS {
-        best[0] = best[0].min(once(&case.source, input, theirs, times));
-        best[1] = best[1].min(once(&case.ours, input, ours, times));
-    }
-    let ratio = best[1] / best[0];
-    let goal = case.goal[FRAMES.iter().position(|f| *f == frames).unwrap()];
-    let met = goal.is_none_or(|g| ratio <= g);
-    let said = match goal {
-        None => "-".into(),
-        Some(g) => format!("{g:.2} {}", if met { "met" } else { "MISSED" }),
-    };
-    println!("{:<34} {frames:>7} {:>11.1} {:>11.1} {ratio:>7.2}  {said}", case.name, best[0], best[1]);
-    met
+    let input = &*input;
+    let best = best(
+        || _ = black_box((case.source)(black_box(input), black_box(&mut *theirs))),
+        || _ = black_box((case.ours)(black_box(input), black_box(&mut *ours))),
+    );
+    print(case.name, &frames.to_string(), best, case.goal[FRAMES.iter().position(|f| *f == frames).unwrap()])
 }

@@ -1,5 +1,5 @@
-// The block functions for a caller in another language, to be timed. A caller tests what each requires. Gain, mix and filters answer how many
-// samples they held back.
+// The block functions, and the opening of a resampler, for a caller in another language, to be timed. A caller tests what each requires.
+// Gain, mix and filters answer how many samples they held back.
 ghost use mathlib.Core.Path.{_≡_};
 ghost use Prim.Native.Nat.{_*_, _/_, _%_, _≤_};
 ghost use lib.IntN.{natAbs};
@@ -11,8 +11,10 @@ ghost use Rattle.dc_block.specs.DcBlock.{dcTick};
 ghost use Rattle.biquad.specs.Recurrence.{biquadTick};
 ghost use Rattle.gain.specs.Clipping.{clippedIn};
 ghost use Rattle.gain.specs.Gain.{scaledBytes};
+ghost use Rattle.rates.specs.Rates.{resamplerOf};
+ghost use Rattle.rates.specs.Answers.{newTold};
 ghost use Rattle.resample.specs.Stage.{Ready};
-ghost use Rattle.kernels.specs.Opened.{openedOutput};
+ghost use Rattle.kernels.specs.Opened.{openedOutput, ratesResult};
 ghost use Rattle.channels.specs.Channels.{stereoBytes, monoBytes, mixAnswer, afterMix, mixTold};
 use biquad::Biquad;
 use cookbook::Coefficients;
@@ -20,7 +22,35 @@ use dc_block::DcBlock;
 use filters::FilterMemory;
 use gain::Gain;
 use rates::LinearResampler;
+use rates::NewResampler;
 use rates::ResamplerState;
+
+// `number` is 0 or the refusal's, which has no rates.
+#[repr(C)]
+pub struct RatesResult {
+    pub number: u16,
+    pub in_r: u64,
+    pub out_r: u64,
+}
+
+#[no_mangle]
+pub extern "C" fn new_resampler(in_rate: u32, out_rate: u32) -> RatesResult
+    ensures { λ r. ⌜ r ≡ ratesResult (newTold (resamplerOf «in_rate» «out_rate»)) ⌝ }
+{
+    let made = LinearResampler::new(in_rate, out_rate);
+    match made {
+        NewResampler::Made(r) => RatesResult {
+            number: 0,
+            in_r: r.in_r,
+            out_r: r.out_r,
+        },
+        NewResampler::Refused(e) => RatesResult {
+            number: e.number(),
+            in_r: 0,
+            out_r: 0,
+        },
+    }
+}
 
 #[no_mangle]
 pub extern "C" fn gain_block(q15: i32, input: &[u8], out: &mut [u8]) -> usize
