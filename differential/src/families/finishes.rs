@@ -46,7 +46,7 @@ fn two_finishes(session: &mut Session, random: &mut Random) {
 type Row = (u16, &'static [[u32; 2]], &'static [usize]);
 
 /// Each stream with two finishes and a reset at its end.
-fn row(session: &mut Session, random: &mut Random, channels: u16, resamplers: &[[u32; 2]], lengths: impl IntoIterator<Item = usize>) {
+pub fn row(session: &mut Session, random: &mut Random, channels: u16, resamplers: &[[u32; 2]], lengths: impl IntoIterator<Item = usize>) {
     let recipe: Vec<u8> = resamplers.iter().flat_map(|rates| recipe::resample(*rates)).collect();
     session.open(Format { rate: resamplers[0][0], channels }, &recipe);
     for frames in lengths {

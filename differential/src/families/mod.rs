@@ -3,6 +3,7 @@
 mod chains;
 mod clipping;
 mod cuttings;
+mod divisors;
 mod ends;
 mod finishes;
 mod numbers;
@@ -21,7 +22,7 @@ use crate::source::Block;
 type Family = (&'static str, fn(&mut Session, &mut Random));
 
 /// The same cases whatever the seed.
-const FIXED: [Family; 13] = [
+const FIXED: [Family; 14] = [
     ("short recipes", recipes::short),
     ("record lengths", recipes::lengths),
     ("limits of settings", recipes::limits),
@@ -30,6 +31,7 @@ const FIXED: [Family; 13] = [
     ("cuttings of finished streams", cuttings::finished),
     ("finishes after every length", finishes::lengths),
     ("finishes, one frame that becomes many", finishes::wide),
+    ("divisors of rates", divisors::every),
     ("every length", room::every_length),
     ("rounding beside every half", numbers::halves),
     ("all samples at many gains", samples::gains),

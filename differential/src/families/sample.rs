@@ -1,8 +1,8 @@
 //! A sample of scripts, small enough to store, that reaches every command, refusal, outcome and stage kind.
 
 use super::{
-    Random, Session, ample_block, ample_finish, ample_half, any_frames, block_over, chains, clipping, ends, finish_over, finishes, numbers,
-    open_any, sound_of,
+    Random, Session, ample_block, ample_finish, ample_half, any_frames, block_over, chains, clipping, divisors, ends, finish_over,
+    finishes, numbers, open_any, sound_of,
 };
 use crate::protocol::{BLOCK, COMMANDS, END_MARK, FINISH, MIX, ROUND_SAT16, SAT16};
 use crate::recipe;
@@ -18,6 +18,7 @@ pub fn gather(session: &mut Session, random: &mut Random) {
     longest_block(session, random);
     any_chains(session, random);
     finishes::few(session, random);
+    divisors::few(session, random);
     clipping::few(session, random);
     damaged(session, random);
     numbers::few(session, random);
