@@ -109,11 +109,9 @@ pub struct Rates {
 
 impl Rates {
     pub fn new(given: [u32; 2]) -> Self {
-        let [mut a, mut b] = given;
-        while b != 0 {
-            (a, b) = (b, a % b);
-        }
-        Rates { given, reduced: given.map(|rate| u64::from(rate / a)) }
+        let RatesResult { number, in_r, out_r } = new_resampler(given);
+        assert_eq!(number, 0, "{given:?}");
+        Rates { given, reduced: [in_r, out_r] }
     }
 
     fn room(self, frames: usize) -> usize {
