@@ -5,7 +5,7 @@ use Prim.Native.Nat.{ℕ, suc, _*_, _/_, _%_}
 use lib.Dec.{eqb, leb}
 use lib.ListN.{length, drop}
 use Rattle.pcm.specs.declared.PcmFormat.{PcmFormat}
-use Rattle.pcm.specs.declared.Error.the-variants.{InvalidFormat, Unsupported, BufferTooSmall, InvalidGeometry, TooManyFrames}
+use Rattle.pcm.specs.declared.Error.the-variants.{InvalidFormat, Unsupported, BufferTooSmall, InvalidGeometry, TooLong}
 use Rattle.pcm.specs.declared.Verdict.{Verdict}
 use Rattle.pcm.specs.declared.Verdict.the-variants.{Accepted, Refused}
 use Rattle.pcm.specs.Formats.{formatAllowed}
@@ -55,7 +55,7 @@ abbrev pub sizeAsked : Pipeline → ℕ → Verdict → Verdict
 sizeAsked c size next =
     ask (legal c) InvalidFormat
     (ask (wholeFrames (c .format) size) InvalidGeometry
-    (ask (leb (size / (c .format .channels * 2)) 8192) TooManyFrames next))
+    (ask (leb (size / (c .format .channels * 2)) 8192) TooLong next))
 
 -- then: In the chain's format? else 2. Room? else 3
 unfoldable pub blockVerdict : Pipeline → PcmFormat → ℕ → ℕ → Verdict

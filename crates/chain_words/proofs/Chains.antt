@@ -11,7 +11,7 @@ use mir.Val.{Fits}
 use lib.Seq.{getD-drop}
 use Rattle.pcm.specs.Samples.{All}
 use Rattle.stage.specs.declared.Stage.{Stage}
-use Rattle.recipe.specs.Records.{known}
+use Rattle.recipe.specs.Records.{ofStage}
 use Rattle.pipeline.specs.Opening.{unusedStage}
 use Rattle.stage_words.specs.Layout.{stageWords, word}
 use Rattle.stage_words.specs.Storable.{Small}
@@ -32,7 +32,7 @@ pub no-stages : stagesWords [] ≡ []
 unfolding stagesWords
 no-stages = refl
 
-pub kinds-next : (w : List ℕ) (i n : ℕ) (b : Bool) → i < n → known (word w (8 + 18 * i)) ≡ b → kindsKnown w i (n - i) ≡ (b && kindsKnown w (i + 1) (n - (i + 1)))
+pub kinds-next : (w : List ℕ) (i n : ℕ) (b : Bool) → i < n → ofStage (word w (8 + 18 * i)) ≡ b → kindsKnown w i (n - i) ≡ (b && kindsKnown w (i + 1) (n - (i + 1)))
 unfolding kindsKnown
 kinds-next w i n b h e = let m : n - i ≡ suc (n - (i + 1)) = omega arith in rw (m, e, add-one)
 

@@ -8,7 +8,7 @@ use lib.Dec.{leb}
 use lib.ListN.{length, drop, replicate}
 use Rattle.pcm.specs.declared.PcmFormat.{PcmFormat}
 use Rattle.stage.specs.declared.Stage.{Stage}
-use Rattle.recipe.specs.Records.{known}
+use Rattle.recipe.specs.Records.{ofStage}
 use Rattle.pipeline.specs.declared.Pipeline.{Pipeline}
 use Rattle.pipeline.specs.Opening.{unusedStage}
 use Rattle.stage_words.specs.Layout.{stageWords, word, stageOf}
@@ -59,9 +59,9 @@ chainAt w = record {
 -- the kinds of the stages from i on, n of them, are such as a recipe knows
 unfoldable pub kindsKnown : List ℕ → ℕ → ℕ → Bool
 kindsKnown w i zero = true
-kindsKnown w i (suc n) = known (word w (8 + 18 * i)) && kindsKnown w (suc i) n
+kindsKnown w i (suc n) = ofStage (word w (8 + 18 * i)) && kindsKnown w (suc i) n
 
--- words stand for a chain where there are enough of them, the count is at most eight and the kinds of the stages in use are known
+-- words stand for a chain where there are enough of them, the count is at most eight and the kinds of the stages in use are kinds of stages
 unfoldable pub stands : List ℕ → Bool
 stands w = leb 152 (length w) && (leb (word w 0) 8 && kindsKnown w 0 (word w 0))
 

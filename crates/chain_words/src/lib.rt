@@ -6,7 +6,7 @@ ghost use lib.ListN.{length, take};
 ghost use lib.Seq.{sets};
 ghost use Rattle.pcm.specs.Samples.{All};
 ghost use Rattle.pcm.specs.Frames.{written};
-ghost use Rattle.recipe.specs.Records.{known};
+ghost use Rattle.recipe.specs.Records.{ofStage};
 ghost use Rattle.pipeline.specs.WritingBack.{stagesOf};
 ghost use Rattle.stage_words.specs.Layout.{memoryWords, stageWords, heldAt, heldWords, word};
 ghost use Rattle.stage_words.specs.Storable.{TwoSamples, HeldFilter, HeldStage, HeldMemory, HeldBy, SmallKind, Small};
@@ -148,7 +148,7 @@ fn chain_at(w: &[u32]) -> Pipeline
 }
 
 fn kind_known(number: u32) -> bool
-    ensures { λ r. ⌜ r ≡ known number ⌝ }
+    ensures { λ r. ⌜ r ≡ ofStage number ⌝ }
 {
     if number == 0 {
         return false;

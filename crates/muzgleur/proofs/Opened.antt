@@ -1,29 +1,28 @@
 -- Laws: a chain that was opened can be kept in words. Assumes nothing.
 use mathlib.Core.Path.{_≡_, refl, _∙_, subst}
-use mathlib.Core.Bool.{Bool, true, false}
+use mathlib.Core.Bool.{Bool, true, false, cond}
 use mathlib.Core.List.{List, [], _∷_}
 use Prim.Native.Nat.{ℕ, zero, suc, _-_, _≤_, _<_}
 use native.Mathlib.Omega.{arith}
 use lib.ListN.{length, replicate, length-append, length-replicate}
 use Rattle.pcm.specs.declared.PcmFormat.{PcmFormat}
-use Rattle.pcm.specs.declared.Error.{Error}
-use Rattle.pcm.specs.declared.Error.the-variants as error
+use Rattle.pcm.specs.declared.Error.the-variants.{InvalidFormat}
 use Rattle.pcm.specs.declared.Verdict.{Verdict}
 use Rattle.pcm.specs.declared.Verdict.the-variants.{Accepted, Refused}
 use Rattle.pcm.specs.Formats.{formatAllowed}
-use Rattle.pcm.specs.Refusals.{refusal, ask}
+use Rattle.pcm.specs.Refusals.{ask}
 use Rattle.pcm.specs.Samples.{All}
 use Rattle.pcm.specs.Frames.{written}
 use Rattle.pcm.specs.laws.Frames.{all-append}
 use Rattle.rates.specs.laws.Rates.{reduced-rates}
 use Rattle.recipe.specs.declared.Record.{Record}
 use Rattle.recipe.specs.declared.Record.the-variants as rec
-use Rattle.recipe.specs.Records.{recordAt, recordVerdict}
+use Rattle.recipe.specs.Records.{ofNote, kindAt, recordAt, recordVerdict, records}
 use Rattle.stage.specs.declared.Stage.{Stage}
 use Rattle.stage.specs.Stages.{stageAsOpened, formatAfter}
 use Rattle.pipeline.specs.declared.Opened.{Opened}
 use Rattle.opening.specs.Opening.{settingsAllowed, stageVerdict, stageKindOf}
-use Rattle.pipeline.specs.Opening.{Stages, opened, refused, asked, front, nextKind, afterNext, openStages, unusedStage, chainOf, openedOf, openCall}
+use Rattle.pipeline.specs.Opening.{Stages, opened, refused, asked, front, nextKind, openRecords, openStages, unusedStage, chainOf, openedOf, openCall}
 use Rattle.pipeline.specs.laws.Opening.{stage-fits}
 use Rattle.pipeline.specs.laws.RoundTrip.{opened-few}
 use Rattle.stage_words.specs.Storable.{HeldStage, SmallKind, Small}
@@ -53,21 +52,26 @@ one-more : (s : Stage) (x : Stages) (ss : List Stage) → front s x ≡ opened s
 one-more s (opened rest) ss e h more = let q : s ∷ rest ≡ ss = cc in subst (λ (l : List Stage). All Small l) q (h, more rest refl)
 one-more s (refused r) ss e h more = let z : _≡_ {A = ℕ} 0 1 = cc in absurd (let b : ⊥ = omega arith in b)
 
-small-opened : (more : ℕ) (f : PcmFormat) (left : List ℕ) (ss : List Stage) → openStages more f left ≡ opened ss → All Small ss
+-- a note, or a stage
+either : (note : Bool) (x y : Stages) (ss : List Stage) → cond note x y ≡ opened ss → (x ≡ opened ss → All Small ss) → (y ≡ opened ss → All Small ss) → All Small ss
+either true x y ss e h k = h e
+either false x y ss e h k = k e
+
+small-records : (more : ℕ) (f : PcmFormat) (rs : List (List ℕ)) (ss : List Stage) → openRecords more f rs ≡ opened ss → All Small ss
+unfolding openRecords
+small-records more f [] ss e = no-more ss e
+small-records more f (left ∷ later) ss e =
+    let r = recordAt left in
+    let p = asked-opened (recordVerdict left) _ ss e in
+    either (ofNote (kindAt left)) (openRecords more f later) _ ss (p .1) (small-records more f later ss) (λ h.
+    let q = asked-opened (stageVerdict more f r) _ ss h in
+    let k = small-kind f r (stage-fits more f r (q .0) .1) in
+    one-more (stageAsOpened (stageKindOf f r)) (openRecords (more - 1) (formatAfter f (nextKind f left)) later) ss (q .1) (record { kind = k; phase = omega arith })
+    (small-records (more - 1) (formatAfter f (nextKind f left)) later))
+
+small-opened : (more : ℕ) (f : PcmFormat) (bytes : List ℕ) (ss : List Stage) → openStages more f bytes ≡ opened ss → All Small ss
 unfolding openStages
-small-opened zero f [] ss e = no-more ss e
-small-opened zero f (b ∷ left) ss e =
-    let p = asked-opened (recordVerdict (b ∷ left)) _ ss e in
-    let q = asked-opened (stageVerdict zero f (recordAt (b ∷ left))) (opened []) ss (p .1) in
-    no-more ss (q .1)
-small-opened (suc more) f [] ss e = no-more ss e
-small-opened (suc more) f (b ∷ left) ss e =
-    let r = recordAt (b ∷ left) in
-    let p = asked-opened (recordVerdict (b ∷ left)) _ ss e in
-    let q = asked-opened (stageVerdict (suc more) f r) _ ss (p .1) in
-    let k = small-kind f r (stage-fits (suc more) f r (q .0) .1) in
-    one-more (stageAsOpened (stageKindOf f r)) (openStages more (formatAfter f (nextKind f (b ∷ left))) (afterNext (b ∷ left))) ss (q .1) (record { kind = k; phase = omega arith })
-    (small-opened more (formatAfter f (nextKind f (b ∷ left))) (afterNext (b ∷ left)))
+small-opened more f bytes ss e = small-records more f (records bytes) ss e
 
 small-unused : (n : ℕ) → All Small (replicate n unusedStage)
 small-unused zero = tt
@@ -86,7 +90,7 @@ module _ (f : PcmFormat) (channels : f .channels < 65536) where
   }
 
   abbrev answerOf : Bool → Stages → Opened
-  answerOf b x = openedOf f (asked (ask b error.InvalidFormat Accepted) x)
+  answerOf b x = openedOf f (asked (ask b InvalidFormat Accepted) x)
 
   opened-storable : (bytes : List ℕ) → openCall f bytes .verdict ≡ Accepted → All HeldStage (openCall f bytes .chain .stages) → Storable (openCall f bytes .chain)
   unfolding openCall
@@ -100,16 +104,3 @@ module _ (f : PcmFormat) (channels : f .channels < 65536) where
   -- after an opening the words stand for the chain opened
   pub open-stands : (bytes w : List ℕ) → openCall f bytes .verdict ≡ Accepted → All HeldStage (openCall f bytes .chain .stages) → chainOfWords (written (wordsOf (openCall f bytes .chain)) w) ≡ openCall f bytes .chain
   open-stands bytes w e held = written-stands (openCall f bytes .chain) (opened-storable bytes e held) w
-
--- a refusal's number is not 0
-pub number-some : (e : Error) → refusal e .number ≡ 0 → ⊥
-number-some error.InvalidFormat h = omega arith
-number-some error.Unsupported h = omega arith
-number-some (error.BufferTooSmall n) h = omega arith
-number-some error.InvalidGeometry h = omega arith
-number-some error.ShortRecord h = omega arith
-number-some error.UnknownStage h = omega arith
-number-some error.RecordLength h = omega arith
-number-some error.TooManyStages h = omega arith
-number-some error.SettingOutOfRange h = omega arith
-number-some error.TooManyFrames h = omega arith

@@ -135,7 +135,7 @@ pub extern "C" fn muzgleur_scratch_bytes(chain: &[u32], size: usize) -> ScratchR
     }
 }
 
-// The recipe's bytes at the front of out; bytes past them stay.
+// The recipe's bytes, without its notes, at the front of out; bytes past them stay.
 #[no_mangle]
 pub extern "C" fn muzgleur_write_recipe(chain: &[u32], out: &mut [u8]) -> WriteTold
     ensures { λ r. ⌜ (r ≡ writeTold (writeCall (chainOfWords (now (chain .entry))) (now (out .entry)) .answer)) × (now (out .exit) ≡ writeCall (chainOfWords (now (chain .entry))) (now (out .entry)) .out) ⌝ }

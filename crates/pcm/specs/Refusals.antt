@@ -1,9 +1,9 @@
--- Refusals and their numbers (document 01, 'The questions'). Definitions only.
+-- Refusals and their numbers (document 01, 'The questions'; document 02, Q-4). Definitions only.
 use Prim.Native.Nat.{ℕ}
 use mathlib.Core.Bool.{Bool, true, false}
 use lib.Dec.{leb}
 use Rattle.pcm.specs.declared.Error.{Error}
-use Rattle.pcm.specs.declared.Error.the-variants.{InvalidFormat, Unsupported, BufferTooSmall, InvalidGeometry, ShortRecord, UnknownStage, RecordLength, TooManyStages, SettingOutOfRange, TooManyFrames}
+use Rattle.pcm.specs.declared.Error.the-variants.{InvalidFormat, Unsupported, BufferTooSmall, InvalidGeometry, ShortRecord, UnknownStage, RecordLength, TooManyStages, SettingOutOfRange, TooLong, NoteTooLong}
 use Rattle.pcm.specs.declared.Verdict.{Verdict}
 use Rattle.pcm.specs.declared.Verdict.the-variants.{Accepted, Refused}
 
@@ -22,12 +22,18 @@ refusal UnknownStage = record { number = 6; needed = 0 }
 refusal RecordLength = record { number = 7; needed = 0 }
 refusal TooManyStages = record { number = 8; needed = 0 }
 refusal SettingOutOfRange = record { number = 9; needed = 0 }
-refusal TooManyFrames = record { number = 10; needed = 0 }
+refusal TooLong = record { number = 10; needed = 0 }
+refusal NoteTooLong = record { number = 11; needed = 0 }
 
 -- a question that is answered no ends the call with its refusal
 abbrev pub ask : Bool → Error → Verdict → Verdict
 ask true e more = more
 ask false e more = Refused e
+
+-- further questions, where those before were answered yes
+abbrev pub andThen : Verdict → Verdict → Verdict
+andThen Accepted more = more
+andThen (Refused e) more = Refused e
 
 -- 0, or the refusal's number
 abbrev pub numberOf : Verdict → ℕ

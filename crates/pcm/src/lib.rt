@@ -61,7 +61,8 @@ pub enum Error {
     RecordLength,
     TooManyStages,
     SettingOutOfRange,
-    TooManyFrames,
+    TooLong,
+    NoteTooLong,
 }
 
 impl Error {
@@ -79,7 +80,8 @@ impl Error {
             Error::RecordLength => 7,
             Error::TooManyStages => 8,
             Error::SettingOutOfRange => 9,
-            Error::TooManyFrames => 10,
+            Error::TooLong => 10,
+            Error::NoteTooLong => 11,
         }
     }
 
@@ -97,7 +99,8 @@ impl Error {
             Error::RecordLength => 0,
             Error::TooManyStages => 0,
             Error::SettingOutOfRange => 0,
-            Error::TooManyFrames => 0,
+            Error::TooLong => 0,
+            Error::NoteTooLong => 0,
         }
     }
 }

@@ -1,5 +1,5 @@
 -- The invariant of opening: the stages so far, and what is left to open. Assumes nothing.
-use mathlib.Core.Path.{_≡_, refl, sym, ap, _∙_}
+use mathlib.Core.Path.{_≡_, refl, sym, ap, ap₂, _∙_}
 use mathlib.Core.Bool.{true, false}
 use mathlib.Core.List.{List, [], _∷_, _++_, append-assoc, append-nil}
 use Prim.Native.Nat.{ℕ, suc, _+_, _-_, _≤_, _<_}
@@ -17,14 +17,15 @@ use Rattle.stage.specs.Stages.{stageAsOpened, formatAfter}
 use Rattle.pcm.specs.laws.Tests.{both}
 use Rattle.recipe.specs.declared.Record.{Record}
 use Rattle.recipe.specs.declared.RecordAnswer.the-variants as read
-use Rattle.recipe.specs.Records.{recordBytes, recordAt, recordVerdict, readRecord}
-use Rattle.recipe.specs.laws.Records.{whole-record}
-use Rattle.recipe.specs.laws.RoundTrip.{size-within}
+use Rattle.recipe.specs.declared.Entry.the-variants as entry
+use Rattle.recipe.specs.Records.{lengthAt, recordBytes, recordAt, readRecord}
+use Rattle.recipe.specs.laws.Records.{Whole, whole-record, whole-stage, afterNext}
+use Rattle.recipe.specs.laws.RoundTrip.{size-read}
 use Rattle.opening.specs.declared.StageAnswer.the-variants as answer
-use Rattle.pipeline.specs.Opening.{Stages, opened, refused, front, afterNext, openStages, chainOf, openCall, unusedStage}
+use Rattle.pipeline.specs.Opening.{Stages, opened, refused, front, openStages, chainOf, openCall, unusedStage}
 use Rattle.opening.specs.Opening.{stageAnswer, stageVerdict, stageKindOf}
-use Rattle.pipeline.proofs.OpeningLaws.{read-accepted, read-refused, rate-after}
-use Rattle.pipeline.specs.laws.Opening.{stage-accepted, stage-refused, stage-fits, open-none, open-short, open-unfit, open-next}
+use Rattle.pipeline.proofs.OpeningLaws.{StageRead, read-stage, NoteRead, read-note, read-refused, rate-after}
+use Rattle.pipeline.specs.laws.Opening.{stage-accepted, stage-refused, stage-fits, open-none, open-short, open-note, open-unfit, open-next}
 
 -- stages before what is left to open
 abbrev pub joined : List Stage → Stages → Stages
@@ -76,22 +77,50 @@ module _ {f : PcmFormat} {bytes : List ℕ} {stages : List Stage} {reaching : Pc
     pub opens-short : {x : Error} → readRecord (drop at bytes) ≡ read.Refused x → openStages 8 f bytes ≡ refused x
     opens-short e = o .is ∙ ap (joined (o .done)) (open-short reaching (8 - count) (drop at bytes) (bytes-left h) (read-refused (drop at bytes) e))
 
-    module _ {r : Record} (e : readRecord (drop at bytes) ≡ read.Record r) where
-      found : recordAt (drop at bytes) ≡ r
-      found = read-accepted (drop at bytes) e .1
+    -- the next record is a note
+    module _ {n : ℕ} (e : readRecord (drop at bytes) ≡ read.Entry (entry.Note n)) where
+      noted : NoteRead (drop at bytes) n
+      noted = read-note (drop at bytes) e
 
-      accepted : recordVerdict (drop at bytes) ≡ Accepted
-      accepted = read-accepted (drop at bytes) e .0
+      whole-note : Whole (drop at bytes)
+      whole-note = whole-record (drop at bytes) (noted .accepted)
+
+      note-size : 2 + lengthAt (drop at bytes) ≡ 4 + n
+      note-size = omega (arith, noted .length-is, whole-note .two)
+
+      pub note-within : at + (4 + n) ≤ length bytes
+      note-within = omega (arith, note-size, whole-note .there, length-drop at bytes)
+
+      pub opens-note : Opens f bytes stages reaching count (at + (4 + n))
+      opens-note = record {
+        done = o .done;
+        many = o .many;
+        few = o .few;
+        placed = o .placed;
+        rate = o .rate;
+        within = note-within;
+        is =
+            o .is ∙ ap (joined (o .done)) (open-note reaching (8 - count) (drop at bytes) (bytes-left h) (noted .accepted) (noted .note)
+            ∙ ap (openStages (8 - count) reaching) (drop-drop (2 + lengthAt (drop at bytes)) at bytes ∙ ap (λ (m : ℕ). drop (at + m) bytes) note-size));
+      }
+
+    -- the next record is a stage's
+    module _ {r : Record} (e : readRecord (drop at bytes) ≡ read.Entry (entry.Stage r)) where
+      found : StageRead (drop at bytes) r
+      found = read-stage (drop at bytes) e
+
+      whole : Whole (drop at bytes)
+      whole = whole-record (drop at bytes) (found .accepted)
+
+      size-is : length (recordBytes r) ≡ 2 + lengthAt (drop at bytes)
+      size-is = rw (found .is) at (size-read (drop at bytes) (whole-stage (drop at bytes) whole (found .stage)))
 
       pub opens-size : at + length (recordBytes r) ≤ length bytes
-      opens-size =
-          let k = rw found at (size-within (drop at bytes) (whole-record (drop at bytes) accepted)) in
-          let l = length-drop at bytes in
-          omega arith
+      opens-size = omega (arith, size-is, whole .there, length-drop at bytes)
 
       -- its stage is refused
       pub opens-unfit : {x : Error} → stageAnswer (8 - count) reaching r ≡ answer.Refused x → openStages 8 f bytes ≡ refused x
-      opens-unfit q = o .is ∙ ap (joined (o .done)) (open-unfit reaching (8 - count) (drop at bytes) (bytes-left h) accepted (rw found (stage-refused (8 - count) reaching r q)))
+      opens-unfit q = o .is ∙ ap (joined (o .done)) (open-unfit reaching (8 - count) (drop at bytes) (bytes-left h) (found .accepted) (found .stage) (rw (found .is) (stage-refused (8 - count) reaching r q)))
 
       -- its stage is taken
       module _ {k : StageKind} (q : stageAnswer (8 - count) reaching r ≡ answer.Stage k) where
@@ -99,7 +128,7 @@ module _ {f : PcmFormat} {bytes : List ℕ} {stages : List Stage} {reaching : Pc
         opens-room = let m = stage-fits (8 - count) reaching r (stage-accepted (8 - count) reaching r q .0) .0 in omega arith
 
         kind-is : stageKindOf reaching (recordAt (drop at bytes)) ≡ k
-        kind-is = rw found (stage-accepted (8 - count) reaching r q .1)
+        kind-is = rw (found .is) (stage-accepted (8 - count) reaching r q .1)
 
         fewer : 8 - count ≡ suc (7 - count)
         fewer = let m = opens-room in omega arith
@@ -114,15 +143,16 @@ module _ {f : PcmFormat} {bytes : List ℕ} {stages : List Stage} {reaching : Pc
             ∙ sym (append-assoc (o .done) (stageAsOpened k ∷ []) (replicate (7 - count) unusedStage))
             ∙ ap (λ (n : ℕ). (o .done ++ (stageAsOpened k ∷ [])) ++ replicate n unusedStage) (sym fewer-next)
 
+        one-fewer : 8 - count - 1 ≡ 8 - (count + 1)
+        one-fewer = omega arith
+
         is-next : openStages (8 - count) reaching (drop at bytes) ≡ front (stageAsOpened k) (openStages (8 - (count + 1)) (formatAfter reaching k) (drop (at + length (recordBytes r)) bytes))
         is-next =
-            let v : stageVerdict (suc (7 - count)) reaching (recordAt (drop at bytes)) ≡ Accepted = rw (← fewer, found) (stage-accepted (8 - count) reaching r q .0) in
-            let d : afterNext (drop at bytes) ≡ drop (at + length (recordBytes r)) bytes = ap (λ (x : Record). drop (length (recordBytes x)) (drop at bytes)) found ∙ drop-drop (length (recordBytes r)) at bytes in
-            ap (λ (n : ℕ). openStages n reaching (drop at bytes)) fewer
-            ∙ open-next reaching (7 - count) (drop at bytes) (bytes-left h) accepted v
-            ∙ ap (λ (x : StageKind). front (stageAsOpened x) (openStages (7 - count) (formatAfter reaching x) (afterNext (drop at bytes)))) kind-is
-            ∙ ap (λ (l : List ℕ). front (stageAsOpened k) (openStages (7 - count) (formatAfter reaching k) l)) d
-            ∙ ap (λ (n : ℕ). front (stageAsOpened k) (openStages n (formatAfter reaching k) (drop (at + length (recordBytes r)) bytes))) (sym fewer-next)
+            let v : stageVerdict (8 - count) reaching (recordAt (drop at bytes)) ≡ Accepted = rw (found .is) (stage-accepted (8 - count) reaching r q .0) in
+            let d : afterNext (drop at bytes) ≡ drop (at + length (recordBytes r)) bytes = drop-drop (2 + lengthAt (drop at bytes)) at bytes ∙ ap (λ (n : ℕ). drop (at + n) bytes) (sym size-is) in
+            open-next reaching (8 - count) (drop at bytes) (bytes-left h) (found .accepted) (found .stage) v
+            ∙ ap (λ (x : StageKind). front (stageAsOpened x) (openStages (8 - count - 1) (formatAfter reaching x) (afterNext (drop at bytes)))) kind-is
+            ∙ ap₂ (λ (n : ℕ) (l : List ℕ). front (stageAsOpened k) (openStages n (formatAfter reaching k) l)) one-fewer d
 
         pub opens-next : Opens f bytes (set stages count (stageAsOpened k)) (formatAfter reaching k) (count + 1) (at + length (recordBytes r))
         opens-next = record {

@@ -1,7 +1,8 @@
--- Opening a chain: the questions in their order, from a format and bytes to a chain or a refusal (document 01, 'The recipe' and 'The questions'). Definitions only.
+-- Opening a chain: the questions in their order, from a format and bytes to a chain or a refusal (document 01, 'The recipe' and 'The questions'; document 02, Q-4). Definitions only.
+use mathlib.Core.Bool.{cond}
 use mathlib.Core.List.{List, [], _∷_, _++_}
-use Prim.Native.Nat.{ℕ, zero, suc, _-_}
-use lib.ListN.{length, drop, replicate}
+use Prim.Native.Nat.{ℕ, _-_}
+use lib.ListN.{length, replicate}
 use Rattle.pcm.specs.declared.PcmFormat.{PcmFormat}
 use Rattle.pcm.specs.declared.Error.{Error}
 use Rattle.pcm.specs.declared.Error.the-variants.{InvalidFormat}
@@ -13,7 +14,7 @@ use Rattle.stage.specs.declared.StageKind.{StageKind}
 use Rattle.stage.specs.declared.StageKind.the-variants as kind
 use Rattle.stage.specs.declared.Stage.{Stage}
 use Rattle.stage.specs.Stages.{stageAsOpened, formatAfter}
-use Rattle.recipe.specs.Records.{recordBytes, recordAt, recordVerdict}
+use Rattle.recipe.specs.Records.{ofNote, kindAt, recordAt, recordVerdict, records}
 use Rattle.pipeline.specs.declared.Pipeline.{Pipeline}
 use Rattle.pipeline.specs.declared.Opened.{Opened}
 use Rattle.opening.specs.Opening.{stageVerdict, stageKindOf}
@@ -32,30 +33,23 @@ abbrev pub front : Stage → Stages → Stages
 front s (opened ss) = opened (s ∷ ss)
 front s (refused e) = refused e
 
--- where no bytes are left there are no more stages
-abbrev pub whileLeft : List ℕ → Stages → Stages
-whileLeft [] more = opened []
-whileLeft (b ∷ left) more = more
-
--- the stage of the next record, and the bytes after it
+-- the stage of the next record
 abbrev pub nextKind : PcmFormat → List ℕ → StageKind
 nextKind f left = stageKindOf f (recordAt left)
 
-abbrev pub afterNext : List ℕ → List ℕ
-afterNext left = drop (length (recordBytes (recordAt left))) left
+-- the stages of records, each given by the bytes that are left there, where the format f reaches the first stage and so many more are allowed. A note is passed over
+unfoldable pub openRecords : ℕ → PcmFormat → List (List ℕ) → Stages
+openRecords more f [] = opened []
+openRecords more f (left ∷ later) =
+    asked (recordVerdict left)
+    (cond (ofNote (kindAt left))
+    (openRecords more f later)
+    (asked (stageVerdict more f (recordAt left))
+    (front (stageAsOpened (nextKind f left)) (openRecords (more - 1) (formatAfter f (nextKind f left)) later))))
 
--- the stages of the bytes that are left, where the format f reaches the first and so many more are allowed
+-- the stages of a recipe's bytes
 unfoldable pub openStages : ℕ → PcmFormat → List ℕ → Stages
-openStages zero f left =
-    whileLeft left
-    (asked (recordVerdict left)
-    (asked (stageVerdict zero f (recordAt left))
-    (opened [])))
-openStages (suc more) f left =
-    whileLeft left
-    (asked (recordVerdict left)
-    (asked (stageVerdict (suc more) f (recordAt left))
-    (front (stageAsOpened (nextKind f left)) (openStages more (formatAfter f (nextKind f left)) (afterNext left)))))
+openStages more f bytes = openRecords more f (records bytes)
 
 -- ---- the chain
 -- what stands in a place that is not in use
@@ -69,6 +63,6 @@ abbrev pub openedOf : PcmFormat → Stages → Opened
 openedOf f (opened ss) = record { verdict = verdict.Accepted; chain = chainOf f ss }
 openedOf f (refused e) = record { verdict = verdict.Refused e; chain = chainOf f [] }
 
--- is the rate 1 to 384,000 and the channel count 1 or 2? else 1. Then the records, at most eight
+-- is the rate 1 to 384,000 and the channel count 1 or 2? else 1. Then the records, at most eight of them stages
 unfoldable pub openCall : PcmFormat → List ℕ → Opened
 openCall f bytes = openedOf f (asked (ask (formatAllowed f) InvalidFormat verdict.Accepted) (openStages 8 f bytes))

@@ -1,3 +1,4 @@
 pub mod Opening
 pub mod Reset
 pub mod RoundTrip
+pub mod WritingBack

@@ -1,4 +1,4 @@
-// A chain of stages, carried by value (pipeline.rs): opened from a recipe and written back to it.
+// A chain of stages, carried by value (pipeline.rs): opened from a recipe and written back to it, without its notes.
 ghost use mathlib.Core.Path.{_≡_};
 ghost use Rattle.pipeline.specs.Opening.{openCall, unusedStage, chainOf};
 ghost use Rattle.writing.specs.WritingBack.{recipeOf};
@@ -10,6 +10,7 @@ use opening::StageAnswer;
 use pcm::Error;
 use pcm::PcmFormat;
 use pcm::Verdict;
+use recipe::Entry;
 use recipe::Record;
 use recipe::RecordAnswer;
 use stage::Stage;
@@ -101,18 +102,25 @@ impl Pipeline {
         let mut at: usize = 0;
         while at < recipe.len() {
             let answer = Record::read(&recipe[at..]);
-            let RecordAnswer::Record(record) = answer else {
+            let RecordAnswer::Entry(entry) = answer else {
                 return unopened(format, answer.verdict());
             };
-            let made = opening::stage_of(reaching, count, record);
-            let StageAnswer::Stage(kind) = made else {
-                return unopened(format, made.verdict());
-            };
-            let next = Stage::new(kind);
-            stages[count] = next;
-            count += 1;
-            reaching = stage::format_after(reaching, kind);
-            at += record.size();
+            match entry {
+                Entry::Note(length) => {
+                    at += 4 + length;
+                }
+                Entry::Stage(record) => {
+                    let made = opening::stage_of(reaching, count, record);
+                    let StageAnswer::Stage(kind) = made else {
+                        return unopened(format, made.verdict());
+                    };
+                    let next = Stage::new(kind);
+                    stages[count] = next;
+                    count += 1;
+                    reaching = stage::format_after(reaching, kind);
+                    at += record.size();
+                }
+            }
         }
         let chain = Pipeline {
             stages,
@@ -127,7 +135,7 @@ impl Pipeline {
         }
     }
 
-    // The bytes that the chain was opened from, at the front of out.
+    // The bytes that the chain was opened from, without their notes, at the front of out.
     pub fn write_recipe(self, out: &mut [u8]) -> WriteAnswer
         ensures all { λ r. ⌜ record { answer = r; out = now (out .exit) } ≡ writeCall self (now (out .entry)) ⌝ }
         ensures told { λ r. ⌜ writeTold r ≡ toldOfWriting (writeVerdict self (length (now (out .entry)))) (length (recipeOf (stagesOf self))) ⌝ }

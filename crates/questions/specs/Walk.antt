@@ -5,11 +5,11 @@ use Prim.Native.Nat.{ℕ, _*_, _%_, _/_, _≤_, _<_}
 use lib.Dec.{eqb, leb, ltb}
 use mathlib.Core.List.{List, [], _∷_}
 use Rattle.pcm.specs.declared.PcmFormat.{PcmFormat}
-use Rattle.pcm.specs.declared.Error.the-variants.{InvalidFormat, Unsupported, BufferTooSmall, InvalidGeometry, TooManyFrames}
+use Rattle.pcm.specs.declared.Error.the-variants.{InvalidFormat, Unsupported, BufferTooSmall, InvalidGeometry, TooLong}
 use Rattle.pcm.specs.declared.Verdict.{Verdict}
 use Rattle.pcm.specs.declared.Verdict.the-variants.{Accepted, Refused}
 use Rattle.pcm.specs.Formats.{formatAllowed}
-use Rattle.pcm.specs.Refusals.{ask}
+use Rattle.pcm.specs.Refusals.{ask, andThen}
 use Rattle.stage.specs.declared.Stage.{Stage}
 use Rattle.stage.specs.Stages.{formatAfter}
 use Rattle.stage.specs.Rooms.{stageSuits, framesOut, framesWanted}
@@ -36,7 +36,7 @@ headLegal f count = leb count 8 && formatAllowed f
 
 -- Whole frames, at least one? else 4. At most 8,192? else 10
 unfoldable pub sizeVerdict : PcmFormat → ℕ → Verdict
-sizeVerdict f size = ask (wholeFrames f size) InvalidGeometry (ask (leb (size / (f .channels * 2)) 8192) TooManyFrames Accepted)
+sizeVerdict f size = ask (wholeFrames f size) InvalidGeometry (ask (leb (size / (f .channels * 2)) 8192) TooLong Accepted)
 
 -- the frames of a block; none of one whose size is refused
 abbrev pub framesIf : Verdict → ℕ → ℕ
@@ -108,11 +108,7 @@ walked q shorter w (s ∷ rest) = walked q shorter (stepped q shorter w s) rest
 unfoldable pub sizedFrom : PcmFormat → ℕ → Walk → Verdict
 sizedFrom f size w = ask (w .legal) InvalidFormat (sizeVerdict f size)
 
-abbrev pub roomAfter : Verdict → Verdict → Verdict
-roomAfter Accepted next = next
-roomAfter (Refused e) next = Refused e
-
 -- then: In the chain's format? else 2. Room? else 3, with needed = twice the room of the first stage short
 unfoldable pub verdictFrom : PcmFormat → PcmFormat → ℕ → Walk → Verdict
 verdictFrom own format size w =
-    roomAfter (sizedFrom own size w) (ask (sameFormat own format) Unsupported (ask (eqb (w .short) 0) (BufferTooSmall (2 * w .short)) Accepted))
+    andThen (sizedFrom own size w) (ask (sameFormat own format) Unsupported (ask (eqb (w .short) 0) (BufferTooSmall (2 * w .short)) Accepted))

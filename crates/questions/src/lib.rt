@@ -63,7 +63,7 @@ fn size_question(format: PcmFormat, size: usize) -> Verdict
         return Verdict::Refused(Error::InvalidGeometry);
     }
     if size / frame > pcm::MAX_FRAMES {
-        return Verdict::Refused(Error::TooManyFrames);
+        return Verdict::Refused(Error::TooLong);
     }
     Verdict::Accepted
 }

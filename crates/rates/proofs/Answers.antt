@@ -3,7 +3,7 @@ use mathlib.Core.Path.{_≡_, refl, ap, _∙_}
 use mathlib.Core.Bool.{Bool, true, false, cond}
 use Prim.Native.Nat.{ℕ, _/_}
 use lib.Dec.{leb}
-use Rattle.pcm.specs.declared.Error.the-variants.{InvalidFormat, TooManyFrames}
+use Rattle.pcm.specs.declared.Error.the-variants.{InvalidFormat, TooLong}
 use Rattle.pcm.specs.declared.Verdict.the-variants.{Accepted}
 use Rattle.pcm.specs.Refusals.{ask, valued}
 use Rattle.rates.specs.Divisor.{gcd}
@@ -27,8 +27,8 @@ max-told : (r : LinearResampler) (n : ℕ) → maxTold (maxFrames r n) ≡ value
 unfolding maxFrames
 max-told r n = go (ratesAllowed (r .«in_rate») (r .«out_rate»)) (leb n 8192)
   where
-    go : (b c : Bool) → maxTold (cond b (cond c (Max.Frames (roomFrames (r .«in_rate») (r .«out_rate») n)) (Max.Refused TooManyFrames)) (Max.Refused InvalidFormat))
-        ≡ valued (ask b InvalidFormat (ask c TooManyFrames Accepted)) (roomFrames (r .«in_rate») (r .«out_rate») n)
+    go : (b c : Bool) → maxTold (cond b (cond c (Max.Frames (roomFrames (r .«in_rate») (r .«out_rate») n)) (Max.Refused TooLong)) (Max.Refused InvalidFormat))
+        ≡ valued (ask b InvalidFormat (ask c TooLong Accepted)) (roomFrames (r .«in_rate») (r .«out_rate») n)
     go true true = refl
     go true false = refl
     go false c = refl

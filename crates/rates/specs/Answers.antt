@@ -1,7 +1,7 @@
 -- What the answers of a lone resampler tell: document 01's number and values for each case ('The questions'). Assumes nothing.
 use Prim.Native.Nat.{ℕ}
 use lib.Dec.{leb}
-use Rattle.pcm.specs.declared.Error.the-variants.{InvalidFormat, TooManyFrames}
+use Rattle.pcm.specs.declared.Error.the-variants.{InvalidFormat, TooLong}
 use Rattle.pcm.specs.declared.Verdict.{Verdict}
 use Rattle.pcm.specs.declared.Verdict.the-variants.{Accepted, Refused}
 use Rattle.pcm.specs.Refusals.{refusal, ask, Valued, valued}
@@ -37,4 +37,4 @@ newVerdict input output = ask (ratesAllowed input output) InvalidFormat Accepted
 
 -- are its rates within the limit? else 1; at most 8,192 frames? else 10
 abbrev pub maxVerdict : LinearResampler → ℕ → Verdict
-maxVerdict r n = ask (ratesAllowed (r .«in_rate») (r .«out_rate»)) InvalidFormat (ask (leb n 8192) TooManyFrames Accepted)
+maxVerdict r n = ask (ratesAllowed (r .«in_rate») (r .«out_rate»)) InvalidFormat (ask (leb n 8192) TooLong Accepted)

@@ -6,7 +6,7 @@ use lib.Dec.{leb, eqb}
 use mathlib.Core.List.{[], _∷_}
 use lib.IntN.{pos}
 use Rattle.pcm.specs.Formats.{rateAllowed}
-use Rattle.pcm.specs.declared.Error.the-variants.{InvalidFormat, TooManyFrames}
+use Rattle.pcm.specs.declared.Error.the-variants.{InvalidFormat, TooLong}
 use Rattle.rates.specs.Divisor.{gcd}
 use Rattle.rates.specs.Counting.{ceilDiv, count}
 use Rattle.rates.specs.declared.LinearResampler.{LinearResampler}
@@ -35,7 +35,7 @@ roomFrames input output n = ceilDiv (n * output) input + 1
 -- are its rates within the limit? else 1; at most 8,192 frames? else 10
 unfoldable pub maxFrames : LinearResampler → ℕ → MaxFrames
 maxFrames r n =
-    cond (ratesAllowed (r .«in_rate») (r .«out_rate»)) (cond (leb n 8192) (Max.Frames (roomFrames (r .«in_rate») (r .«out_rate») n)) (Max.Refused TooManyFrames)) (Max.Refused InvalidFormat)
+    cond (ratesAllowed (r .«in_rate») (r .«out_rate»)) (cond (leb n 8192) (Max.Frames (roomFrames (r .«in_rate») (r .«out_rate») n)) (Max.Refused TooLong)) (Max.Refused InvalidFormat)
 
 -- rates within their limit, and in_r and out_r of the same ratio: what an opened resampler has
 pub record Rates (r : LinearResampler) : Type 0 where

@@ -178,7 +178,7 @@ impl LinearResampler {
             if frames <= pcm::MAX_FRAMES {
                 return MaxFrames::Frames(self.room_frames(frames));
             }
-            return MaxFrames::Refused(Error::TooManyFrames);
+            return MaxFrames::Refused(Error::TooLong);
         }
         MaxFrames::Refused(Error::InvalidFormat)
     }

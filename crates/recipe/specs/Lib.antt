@@ -1,3 +1,4 @@
+pub mod Notes
 pub mod Records
 pub mod RoundTrip
 pub mod Theorems

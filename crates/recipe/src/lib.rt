@@ -1,17 +1,18 @@
-// One record of a recipe, read and written (document 01, 'The recipe').
+// One record of a recipe, read and written (document 01, 'The recipe'; document 02, Q-4).
 ghost use mathlib.Core.Path.{_≡_};
 ghost use mathlib.Core.Bool.{true};
 ghost use Prim.Native.Nat.{_+_, _*_, _≤_, _<_};
 ghost use lib.ListN.{length, drop};
 ghost use Rattle.pcm.specs.Frames.{written};
+ghost use Rattle.pcm.specs.declared.Verdict.the-variants.{Accepted};
 ghost use Rattle.words.specs.Words.{words, wordsBytes};
 ghost use lib.Seq.{sets};
-ghost use Rattle.recipe.specs.Records.{known, fieldCount, recordVerdict, recordOf, readRecord, recordAnswerVerdict, recordBytes, kindNumber, fieldsOf};
+ghost use Rattle.recipe.specs.Records.{ofStage, ofNote, known, fieldCount, lengthVerdict, recordVerdict, recordOf, entryAt, readRecord, recordAnswerVerdict, recordBytes, kindNumber, fieldsOf};
 use biquad::CoefficientBits;
 use pcm::Error;
 use pcm::Verdict;
 
-// A record's fields as its bytes give them.
+// A stage's fields as its record's bytes give them.
 pub enum Record {
     Gain { q15: i32 },
     MonoToStereo,
@@ -21,8 +22,14 @@ pub enum Record {
     Biquad { rate: u32, bits: CoefficientBits },
 }
 
+// What a record is: a stage's, or a note of so many bytes.
+pub enum Entry {
+    Stage(Record),
+    Note(usize),
+}
+
 pub enum RecordAnswer {
-    Record(Record),
+    Entry(Entry),
     Refused(Error),
 }
 
@@ -32,15 +39,15 @@ impl RecordAnswer {
         ensures { λ r. ⌜ r ≡ recordAnswerVerdict self ⌝ }
     {
         match self {
-            RecordAnswer::Record(_) => Verdict::Accepted,
+            RecordAnswer::Entry(_) => Verdict::Accepted,
             RecordAnswer::Refused(e) => Verdict::Refused(e),
         }
     }
 }
 
 // Is there a stage of this kind?
-fn known(kind: u16) -> bool
-    ensures { λ r. ⌜ r ≡ known kind ⌝ }
+fn of_stage(kind: u16) -> bool
+    ensures { λ r. ⌜ r ≡ ofStage kind ⌝ }
 {
     if kind == 0 {
         return false;
@@ -48,9 +55,26 @@ fn known(kind: u16) -> bool
     kind <= 6
 }
 
-// How many fields of 32 bits a kind has.
+// Is a record of this kind a note?
+pub fn of_note(kind: u16) -> bool
+    ensures { λ r. ⌜ r ≡ ofNote kind ⌝ }
+{
+    kind >= 0x8000
+}
+
+// Is there a stage or a note of this kind?
+fn known(kind: u16) -> bool
+    ensures { λ r. ⌜ r ≡ known kind ⌝ }
+{
+    if of_stage(kind) {
+        return true;
+    }
+    of_note(kind)
+}
+
+// How many fields of 32 bits a stage's kind has.
 fn field_count(kind: u16) -> usize
-    requires { ⌜ known kind ≡ true ⌝ }
+    requires { ⌜ ofStage kind ≡ true ⌝ }
     ensures { λ r. ⌜ r ≡ fieldCount kind ⌝ }
 {
     match kind {
@@ -63,6 +87,23 @@ fn field_count(kind: u16) -> usize
     }
 }
 
+// Is the length one that the kind has? It counts the two bytes of the kind.
+fn length_question(kind: u16, length: usize) -> Verdict
+    requires { ⌜ known kind ≡ true ⌝ }
+    ensures { λ r. ⌜ r ≡ lengthVerdict kind length ⌝ }
+{
+    if of_note(kind) {
+        if length > 66 {
+            return Verdict::Refused(Error::NoteTooLong);
+        }
+        return Verdict::Accepted;
+    }
+    if length != 2 + 4 * field_count(kind) {
+        return Verdict::Refused(Error::RecordLength);
+    }
+    Verdict::Accepted
+}
+
 // The questions of a record's bytes.
 fn record_question(left: &[u8]) -> Verdict
     ensures { λ r. ⌜ r ≡ recordVerdict (now (left .entry)) ⌝ }
@@ -71,6 +112,7 @@ fn record_question(left: &[u8]) -> Verdict
         return Verdict::Refused(Error::ShortRecord);
     }
     let length = words::get_u16(left, 0) as usize;
+    let whole = left.len() >= 2 + length;
     if length < 2 {
         return Verdict::Refused(Error::ShortRecord);
     }
@@ -78,10 +120,11 @@ fn record_question(left: &[u8]) -> Verdict
     if !known(kind) {
         return Verdict::Refused(Error::UnknownStage);
     }
-    if length != 2 + 4 * field_count(kind) {
-        return Verdict::Refused(Error::RecordLength);
+    let sized = length_question(kind, length);
+    if let Verdict::Refused(e) = sized {
+        return Verdict::Refused(e);
     }
-    if left.len() < 2 + length {
+    if !whole {
         return Verdict::Refused(Error::ShortRecord);
     }
     Verdict::Accepted
@@ -106,7 +149,7 @@ fn biquad_of(left: &[u8]) -> Record
 
 // The record of a kind whose fields start at the fifth byte.
 fn record_of(kind: u16, left: &[u8]) -> Record
-    requires { ⌜ (known kind ≡ true) × (4 + 4 * fieldCount kind ≤ length (now left)) ⌝ }
+    requires { ⌜ (ofStage kind ≡ true) × (4 + 4 * fieldCount kind ≤ length (now left)) ⌝ }
     ensures { λ r. ⌜ r ≡ recordOf kind (words (fieldCount kind) (drop 4 (now (left .entry)))) ⌝ }
 {
     match kind {
@@ -126,6 +169,19 @@ fn record_of(kind: u16, left: &[u8]) -> Record
     }
 }
 
+// What a record is whose questions were all answered yes.
+fn entry_of(left: &[u8]) -> Entry
+    requires { ⌜ recordVerdict (now left) ≡ Accepted ⌝ }
+    ensures { λ r. ⌜ r ≡ entryAt (now (left .entry)) ⌝ }
+{
+    let kind = words::get_u16(left, 2);
+    if of_note(kind) {
+        let length = words::get_u16(left, 0) as usize;
+        return Entry::Note(length - 2);
+    }
+    Entry::Stage(record_of(kind, left))
+}
+
 impl Record {
     // The record at the front of the bytes that are left.
     pub fn read(left: &[u8]) -> RecordAnswer
@@ -133,7 +189,7 @@ impl Record {
     {
         let v = record_question(left);
         match v {
-            Verdict::Accepted => RecordAnswer::Record(record_of(words::get_u16(left, 2), left)),
+            Verdict::Accepted => RecordAnswer::Entry(entry_of(left)),
             Verdict::Refused(e) => RecordAnswer::Refused(e),
         }
     }
@@ -154,7 +210,7 @@ impl Record {
         }
     }
 
-    // How many bytes the record has.
+    // How many bytes its record has.
     pub fn size(self) -> usize
         ensures { λ r. ⌜ r ≡ length (recordBytes self) ⌝ }
     {

@@ -18,11 +18,11 @@ use Rattle.resample.specs.Resample.{blend, outputAt, wholeOutputs, among, first
 use Rattle.stage.specs.declared.StageKind.the-variants as kind
 use Rattle.stage.specs.Stages.{stageOut, stageNext, stageClipped, stageAsOpened}
 use Rattle.stage.specs.Rooms.{ratesSuit, stageSuits, framesOut, framesWanted, roomWanted}
-use Rattle.recipe.specs.Records.{recordVerdict, recordOf, recordBytes}
+use Rattle.recipe.specs.Records.{recordVerdict, recordOf, recordsAfter}
 use Rattle.opening.specs.Opening.{stageVerdict}
 use Rattle.pipeline.specs.declared.Pipeline.{Pipeline}
 use Rattle.pipeline.specs.declared.Opened.{Opened}
-use Rattle.pipeline.specs.Opening.{openStages, chainOf, openCall}
+use Rattle.pipeline.specs.Opening.{openRecords, openStages, chainOf, openCall}
 use Rattle.pipeline.specs.Reset.{formatLeaving}
 use Rattle.answers.specs.declared.Answer.the-variants.{NothingYet}
 use Rattle.answers.specs.declared.FinishAnswer.the-variants as finished
@@ -52,8 +52,13 @@ abbrev doubling : Pipeline
 doubling = chainOf mono8000 (stageAsOpened (kind.Resample (reduced 8000 16000)) ∷ [])
 
 opened-f : openCall mono8000 recipe ≡ record { verdict = Accepted; chain = doubling }
-unfolding openCall openStages recordVerdict stageVerdict recordOf recordBytes rateAllowed channelsAllowed formatAllowed ratesAllowed
+unfolding openCall openStages openRecords recordsAfter recordVerdict stageVerdict recordOf rateAllowed channelsAllowed formatAllowed ratesAllowed
 opened-f = refl
+
+-- with a note of two bytes before its stage, and one of none after it
+noted-f : openCall mono8000 (0x04 ∷ 0x00 ∷ 0x00 ∷ 0x80 ∷ 0x68 ∷ 0x69 ∷ recipe ++ (0x02 ∷ 0x00 ∷ 0xFF ∷ 0xFF ∷ [])) ≡ record { verdict = Accepted; chain = doubling }
+unfolding openCall openStages openRecords recordsAfter recordVerdict stageVerdict recordOf rateAllowed channelsAllowed formatAllowed ratesAllowed
+noted-f = refl
 
 abbrev opened : Pipeline
 opened = openCall mono8000 recipe .chain

@@ -4,7 +4,7 @@ use Prim.Native.Nat.{ℕ, _*_, _/_}
 use lib.Dec.{leb}
 use lib.ListN.{length, drop}
 use Rattle.pcm.specs.declared.PcmFormat.{PcmFormat}
-use Rattle.pcm.specs.declared.Error.the-variants.{Unsupported, BufferTooSmall, InvalidGeometry, TooManyFrames}
+use Rattle.pcm.specs.declared.Error.the-variants.{Unsupported, BufferTooSmall, InvalidGeometry, TooLong}
 use Rattle.pcm.specs.declared.Verdict.{Verdict}
 use Rattle.pcm.specs.declared.Verdict.the-variants.{Accepted}
 use Rattle.pcm.specs.Refusals.{ask}
@@ -38,6 +38,6 @@ plainHalves f (k ∷ ks) X bytes shorter = plainRoom f (k ∷ ks) X (framesOf (f
 unfoldable pub plainVerdict : PcmFormat → List StageKind → List Frame → PcmFormat → List ℕ → ℕ → Verdict
 plainVerdict f ks X format bytes shorter =
     ask (wholeFrames f (length bytes)) InvalidGeometry
-    (ask (leb (length bytes / (f .channels * 2)) 8192) TooManyFrames
+    (ask (leb (length bytes / (f .channels * 2)) 8192) TooLong
     (ask (sameFormat f format) Unsupported
     (plainHalves f ks X bytes shorter)))

@@ -23,13 +23,14 @@ use Rattle.stream.specs.FromChain.{Since}
 use Rattle.stream.specs.laws.FromChain.{begun}
 use Rattle.stream.specs.WholeStream.{WholeStream}
 use Rattle.stream.specs.laws.WholeStream.{whole-stream-of}
-use Rattle.pcm.specs.Frames.{written, Frame}
+use Rattle.pcm.specs.Frames.{Frame}
 use Rattle.stage.specs.Stages.{kindsOf, stageClear}
 use Rattle.pipeline.specs.declared.Pipeline.{Pipeline}
 use Rattle.pipeline.specs.declared.Opened.{Opened}
-use Rattle.pipeline.specs.declared.WriteAnswer.the-variants as answer
+use Rattle.recipe.specs.Notes.{notesIn, withoutNotes}
+use Rattle.recipe.specs.Theorems.{no-notes}
 use Rattle.writing.specs.WritingBack.{recipeOf}
-use Rattle.pipeline.specs.WritingBack.{writeVerdict, writeCall, stagesOf}
+use Rattle.pipeline.specs.WritingBack.{writeVerdict, writeOutcome, writeCall, stagesOf}
 use Rattle.pipeline.specs.laws.RoundTrip.{recipe-of-kinds}
 use Rattle.pipeline.specs.Theorems.{recipe-kept}
 use Rattle.answers.specs.declared.Scratch.the-variants as scratch
@@ -96,12 +97,16 @@ module _ (f : PcmFormat) (recipe : List ℕ) (h : openCall f recipe .verdict ≡
   as-answered : openCall f recipe ≡ record { verdict = Accepted; chain = o }
   as-answered = ap (λ v. let r : Opened = record { verdict = v; chain = o } in r) h
 
-  -- a chain writes itself back to the bytes it was opened from
-  pub writes-back : Bytes recipe → (out : List ℕ) → length recipe ≤ length out → writeCall c out ≡ record { answer = answer.Written (length recipe); out = written recipe out }
-  unfolding writeCall writeVerdict roomVerdict
-  writes-back b out room =
-      let kept : recipeOf (stagesOf c) ≡ recipe = recipe-of-kinds (stagesOf c) (stagesOf o) kinds-kept ∙ recipe-kept f recipe o as-answered b in
-      rw (le-leb (c .count) 8 few, kept, le-leb (length recipe) (length out) room)
+  -- a chain writes itself back to the bytes it was opened from, without their notes; needed is the bytes so written
+  pub writes-back : Bytes recipe → (out : List ℕ) → writeCall c out ≡ writeOutcome (roomVerdict (length (withoutNotes recipe)) (length out)) (withoutNotes recipe) out
+  unfolding writeCall writeVerdict
+  writes-back b out =
+      let kept : recipeOf (stagesOf c) ≡ withoutNotes recipe = recipe-of-kinds (stagesOf c) (stagesOf o) kinds-kept ∙ recipe-kept f recipe o as-answered b in
+      rw (le-leb (c .count) 8 few, kept)
+
+  -- and to those very bytes where they hold none
+  pub writes-back-exactly : Bytes recipe → notesIn recipe ≡ [] → (out : List ℕ) → writeCall c out ≡ writeOutcome (roomVerdict (length recipe) (length out)) recipe out
+  writes-back-exactly b n = let k = no-notes recipe n in rw k at (writes-back b)
 
   -- `scratch_bytes` of the chain as opened: halves of half that figure each never give 3
   pub scratch-still-suffices : (format : PcmFormat) (size figure short : ℕ) → scratchBytes o size ≡ scratch.Bytes figure → figure ≤ 2 * short

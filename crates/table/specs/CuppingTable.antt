@@ -24,8 +24,8 @@ use Rattle.pcm.specs.Formats.{formatAllowed}
 use Rattle.pcm.specs.Refusals.{numberOf}
 use Rattle.stage.specs.declared.StageKind.the-variants as kind
 use Rattle.stage.specs.Stages.{stageAsOpened}
-use Rattle.recipe.specs.Records.{recordVerdict, recordOf, recordBytes}
-use Rattle.pipeline.specs.Opening.{opened, refused, openStages, chainOf, openCall}
+use Rattle.recipe.specs.Records.{recordVerdict, recordOf, recordsAfter}
+use Rattle.pipeline.specs.Opening.{opened, refused, openRecords, openStages, chainOf, openCall}
 use Rattle.opening.specs.Opening.{stageVerdict}
 
 -- the float n and a half: m * 2 ^ e with the odd m of 2 * n + 1 halves
@@ -98,11 +98,11 @@ unfolding roundSat halfUp
 just-under-half = refl
 
 gain-stages : (f : PcmFormat) → openStages 8 f (0x06 ∷ 0x00 ∷ 0x01 ∷ 0x00 ∷ 0x00 ∷ 0x40 ∷ 0x00 ∷ 0x00 ∷ []) ≡ opened (stageAsOpened (kind.Gain (record { q15 = pos 16384 })) ∷ [])
-unfolding openStages recordVerdict stageVerdict recordOf recordBytes
+unfolding openStages openRecords recordsAfter recordVerdict stageVerdict recordOf
 gain-stages f = refl
 
 unknown-stage : (f : PcmFormat) → openStages 8 f (0x02 ∷ 0x00 ∷ 0xff ∷ 0x00 ∷ []) ≡ refused UnknownStage
-unfolding openStages recordVerdict
+unfolding openStages openRecords recordsAfter recordVerdict
 unknown-stage f = refl
 
 -- (k) 06 00 01 00 00 40 00 00 is gain 16,384

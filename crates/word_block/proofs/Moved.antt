@@ -10,7 +10,7 @@ use lib.Seq.{sets, length-sets}
 use Rattle.stage.specs.declared.Stage.{Stage}
 use Rattle.block.specs.laws.Stages.{withStages}
 use Rattle.stage_words.specs.Layout.{word}
-use Rattle.stage_words.specs.laws.Runs.{before-run, after-run}
+use Rattle.words.specs.laws.Runs.{before-run, after-run}
 use Rattle.chain_words.specs.Layout.{counterWords, stageAt, stagesFrom, chainAt, stands}
 use Rattle.chain_words.specs.laws.Places.{other-place}
 use Rattle.chain_words.specs.laws.Keeping.{same-stages, same-kinds, counters-written, counters-apart, stages-apart}

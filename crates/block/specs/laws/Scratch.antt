@@ -5,7 +5,7 @@ use mathlib.Core.List.{List, [], _∷_}
 use Prim.Native.Nat.{ℕ}
 use native.Mathlib.Omega.{arith}
 use Rattle.pcm.specs.declared.PcmFormat.{PcmFormat}
-use Rattle.pcm.specs.declared.Error.the-variants.{InvalidFormat, Unsupported, InvalidGeometry, TooManyFrames}
+use Rattle.pcm.specs.declared.Error.the-variants.{InvalidFormat, Unsupported, InvalidGeometry, TooLong}
 use Rattle.pcm.specs.declared.Verdict.{Verdict}
 use Rattle.pcm.specs.declared.Verdict.the-variants.{Accepted, Refused}
 use Rattle.pcm.specs.Refusals.{ask, numberOf}
@@ -38,7 +38,7 @@ pub figure-is : (v : Verdict) (own figure : ℕ) → scratchAnswer v own ≡ scr
 figure-is Accepted own figure e = cc
 figure-is (Refused x) own figure e = cc
 
-pub not-room : (p q r t : Bool) (v : Verdict) → v ≡ Accepted → numberOf (ask p InvalidFormat (ask q InvalidGeometry (ask r TooManyFrames (ask t Unsupported v)))) ≡ 3 → ⊥
+pub not-room : (p q r t : Bool) (v : Verdict) → v ≡ Accepted → numberOf (ask p InvalidFormat (ask q InvalidGeometry (ask r TooLong (ask t Unsupported v)))) ≡ 3 → ⊥
 not-room true true true true v h e = omega (arith, ap numberOf h, e)
 not-room true true true false v h e = omega arith
 not-room true true false t v h e = omega arith

@@ -9,7 +9,7 @@ use lib.Dec.{leb, ltb}
 use lib.ListN.{length, take, drop, getD, drop-of-length-le, length-take}
 use lib.Seq.{drop-cons, getD-take, length-take-le}
 use Rattle.pcm.specs.declared.PcmFormat.{PcmFormat}
-use Rattle.pcm.specs.declared.Error.the-variants.{InvalidFormat, Unsupported, BufferTooSmall, InvalidGeometry, TooManyFrames}
+use Rattle.pcm.specs.declared.Error.the-variants.{InvalidFormat, Unsupported, BufferTooSmall, InvalidGeometry, TooLong}
 use Rattle.pcm.specs.declared.Verdict.the-variants.{Accepted, Refused}
 use Rattle.stage.specs.declared.Stage.{Stage}
 use Rattle.stage.specs.Stages.{formatAfter}
@@ -40,7 +40,7 @@ unfolding blockVerdict
 accepts c format block a b h =
     let p = ask-yes (legal c) InvalidFormat _ h in
     let q = ask-yes (wholeFrames (c .format) (length block)) InvalidGeometry _ (p .1) in
-    let r = ask-yes (leb (length block / (c .format .channels * 2)) 8192) TooManyFrames _ (q .1) in
+    let r = ask-yes (leb (length block / (c .format .channels * 2)) 8192) TooLong _ (q .1) in
     let s = ask-yes (sameFormat (c .format) format) Unsupported _ (r .1) in
     let w = both (ltb 0 (length block)) _ (q .0) in
     record { chain = p .0; whole = eqb-true _ _ (w .1); some = ltb-true _ _ (w .0); most = leb-true _ _ (r .0); room = s .1 }

@@ -8,11 +8,11 @@ use native.Mathlib.Omega.{arith}
 use borrow.Author.Tests.{leb-true, leb-false, le-leb, lt-leb, eqb-true, eqb-false, eq-eqb, ne-eqb}
 use lib.Dec.{eqb, leb, ltb}
 use Rattle.pcm.specs.declared.PcmFormat.{PcmFormat}
-use Rattle.pcm.specs.declared.Error.the-variants.{InvalidFormat, Unsupported, BufferTooSmall, InvalidGeometry, TooManyFrames}
+use Rattle.pcm.specs.declared.Error.the-variants.{InvalidFormat, Unsupported, BufferTooSmall, InvalidGeometry, TooLong}
 use Rattle.pcm.specs.declared.Verdict.{Verdict}
 use Rattle.pcm.specs.declared.Verdict.the-variants.{Accepted, Refused}
 use Rattle.pcm.specs.Formats.{formatAllowed}
-use Rattle.pcm.specs.Refusals.{ask}
+use Rattle.pcm.specs.Refusals.{ask, andThen}
 use Rattle.stage.specs.declared.Stage.{Stage}
 use Rattle.stage.specs.Stages.{formatAfter}
 use Rattle.pcm.specs.laws.Tests.{both}
@@ -26,7 +26,7 @@ use Rattle.questions.specs.declared.Walk.{Walk}
 use Rattle.answers.specs.declared.Scratch.the-variants as scratch
 use Rattle.block.specs.BlockCall.{legal, suited, roomsVerdict, halvesVerdict, sizeAsked, blockVerdict, largestRoom, scratchAnswer, scratchFigure, scratchBytes}
 use Rattle.pipeline.specs.WritingBack.{stagesOf}
-use Rattle.questions.specs.Walk.{wholeFrames, sameFormat, larger, headLegal, sizeVerdict, blockFrames, dueOf, firstShort, roomOf, further, illegal, stepped, copyRoom, begun, walked, sizedFrom, roomAfter, verdictFrom}
+use Rattle.questions.specs.Walk.{wholeFrames, sameFormat, larger, headLegal, sizeVerdict, blockFrames, dueOf, firstShort, roomOf, further, illegal, stepped, copyRoom, begun, walked, sizedFrom, verdictFrom}
 use Rattle.block.specs.laws.Steps.{room-none, room-short, room-next}
 use Rattle.block.specs.laws.Bounds.{suited-first, suited-rest, next-bound, few-frames, larger-least, larger-assoc, larger-zero}
 use Rattle.questions.specs.laws.Walking.{frames-most, delivered-within, room-fits, step-suits, step-unsuited, step-illegal}
@@ -279,7 +279,7 @@ module _ (f : PcmFormat) (size : ℕ) (h : sizeVerdict f size ≡ Accepted) wher
   unfolding sizeVerdict
   whole-is = go (wholeFrames f size) (leb (size / (f .channels * 2)) 8192) h
     where
-      go : (t u : Bool) → ask t InvalidGeometry (ask u TooManyFrames Accepted) ≡ Accepted → t ≡ true
+      go : (t u : Bool) → ask t InvalidGeometry (ask u TooLong Accepted) ≡ Accepted → t ≡ true
       go true u e = refl
       go false u e = cc
 
@@ -298,12 +298,12 @@ module _ (c : Pipeline) (size : ℕ) (head : headLegal (c .format) (c .count) �
       go false u e = cc
 
   -- the questions before those of format and room
-  sized-then : (t : Bool) (next : Verdict) → ask t InvalidFormat (ask (wholeFrames (c .format) size) InvalidGeometry (ask (leb (size / (c .format .channels * 2)) 8192) TooManyFrames next))
-      ≡ roomAfter (ask t InvalidFormat (sizeVerdict (c .format) size)) next
+  sized-then : (t : Bool) (next : Verdict) → ask t InvalidFormat (ask (wholeFrames (c .format) size) InvalidGeometry (ask (leb (size / (c .format .channels * 2)) 8192) TooLong next))
+      ≡ andThen (ask t InvalidFormat (sizeVerdict (c .format) size)) next
   unfolding sizeVerdict
   sized-then t next = go t (wholeFrames (c .format) size) (leb (size / (c .format .channels * 2)) 8192)
     where
-      go : (t u v : Bool) → ask t InvalidFormat (ask u InvalidGeometry (ask v TooManyFrames next)) ≡ roomAfter (ask t InvalidFormat (ask u InvalidGeometry (ask v TooManyFrames Accepted))) next
+      go : (t u v : Bool) → ask t InvalidFormat (ask u InvalidGeometry (ask v TooLong next)) ≡ andThen (ask t InvalidFormat (ask u InvalidGeometry (ask v TooLong Accepted))) next
       go true true true = refl
       go true true false = refl
       go true false v = refl
@@ -311,13 +311,13 @@ module _ (c : Pipeline) (size : ℕ) (head : headLegal (c .format) (c .count) �
 
   -- from any walk that begins at the chain's format
   pub asked-is : (q : Question) (shorter : ℕ) (w : Walk) (next : Verdict) → w .legal ≡ true → w .format ≡ c .format
-      → sizeAsked c size next ≡ roomAfter (sizedFrom (c .format) size (walked q shorter w (stagesOf c))) next
+      → sizeAsked c size next ≡ andThen (sizedFrom (c .format) size (walked q shorter w (stagesOf c))) next
   unfolding sizedFrom
   asked-is q shorter w next h e =
       sized-then (legal c) next
-      ∙ ap (λ (t : Bool). roomAfter (ask t InvalidFormat (sizeVerdict (c .format) size)) next) (legal-is ∙ sym (walked-legal q shorter w (stagesOf c) h ∙ ap (λ (f : PcmFormat). suited f (stagesOf c)) e))
+      ∙ ap (λ (t : Bool). andThen (ask t InvalidFormat (sizeVerdict (c .format) size)) next) (legal-is ∙ sym (walked-legal q shorter w (stagesOf c) h ∙ ap (λ (f : PcmFormat). suited f (stagesOf c)) e))
 
-after-same : (v a b : Verdict) → (v ≡ Accepted → a ≡ b) → roomAfter v a ≡ roomAfter v b
+after-same : (v a b : Verdict) → (v ≡ Accepted → a ≡ b) → andThen v a ≡ andThen v b
 after-same Accepted a b h = h refl
 after-same (Refused e) a b h = refl
 
@@ -417,7 +417,7 @@ same-figure : (v : Verdict) (m n : ℕ) → (v ≡ Accepted → m ≡ n) → scr
 same-figure Accepted m n h = ap scratch.Bytes (h refl)
 same-figure (Refused e) m n h = refl
 
-after-none : (v : Verdict) → roomAfter v Accepted ≡ v
+after-none : (v : Verdict) → andThen v Accepted ≡ v
 after-none Accepted = refl
 after-none (Refused e) = refl
 

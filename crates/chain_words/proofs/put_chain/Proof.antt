@@ -10,7 +10,7 @@ use Rattle.pcm.specs.Samples.{All}
 use Rattle.stage.specs.declared.Stage.{Stage}
 use Rattle.stage_words.specs.Layout.{stageWords}
 use Rattle.stage_words.specs.Storable.{HeldStage}
-use Rattle.stage_words.specs.laws.Runs.{sets-append}
+use Rattle.words.specs.laws.Runs.{sets-append}
 use Rattle.chain_words.specs.Layout.{headWords, stagesWords, wordsOf}
 use Rattle.stage.specs.laws.Places.{noStage}
 use Rattle.pcm.specs.laws.Lists.{unmapped}

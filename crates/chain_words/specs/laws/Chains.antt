@@ -13,7 +13,7 @@ use Rattle.stage.specs.declared.StageKind.{StageKind}
 use Rattle.stage.specs.declared.StageKind.the-variants as kind
 use Rattle.stage.specs.declared.Stage.{Stage}
 use Rattle.pcm.specs.laws.Tests.{both}
-use Rattle.recipe.specs.Records.{known}
+use Rattle.recipe.specs.Records.{ofStage}
 use Rattle.pipeline.specs.declared.Pipeline.{Pipeline}
 use Rattle.stage_words.specs.Layout.{settingWords, memoryWords, stageWords, word, stageOf}
 use Rattle.stage_words.specs.Storable.{HeldStage, Small}
@@ -53,7 +53,7 @@ module _ (w rest : List ℕ) where
       (ap stageOf (e ∙ append-assoc (stageWords s) (stagesWords l) rest) ∙ stage-back s (h .0) (k .0) (stagesWords l ++ rest))
       (stages-back l (suc i) (next-place s l i e) (h .1) (k .1))
 
-  first-known : (k : StageKind) (later : List ℕ) → known (word (settingWords k ++ later) 0) ≡ true
+  first-known : (k : StageKind) (later : List ℕ) → ofStage (word (settingWords k ++ later) 0) ≡ true
   unfolding settingWords
   first-known (kind.Gain g) later = refl
   first-known kind.MonoToStereo later = refl
@@ -62,11 +62,11 @@ module _ (w rest : List ℕ) where
   first-known (kind.DcBlock d) later = refl
   first-known (kind.Biquad b) later = refl
 
-  kind-at : (s : Stage) (l : List Stage) (i : ℕ) → placeOf w i ≡ stagesWords (s ∷ l) ++ rest → known (word w (8 + 18 * i)) ≡ true
+  kind-at : (s : Stage) (l : List Stage) (i : ℕ) → placeOf w i ≡ stagesWords (s ∷ l) ++ rest → ofStage (word w (8 + 18 * i)) ≡ true
   unfolding stagesWords stageWords
   kind-at s l i e =
       let n : 8 + 18 * i + 0 ≡ 8 + 18 * i = omega arith in
-      ap known
+      ap ofStage
       (sym (getD-drop (8 + 18 * i) w 0 0 ∙ ap (word w) n)
       ∙ ap (λ (x : List ℕ). word x 0) (e ∙ append-assoc (stageWords s) (stagesWords l) rest ∙ append-assoc (settingWords (s .kind)) (memoryWords (s .memory)) (stagesWords l ++ rest)))
       ∙ first-known (s .kind) (memoryWords (s .memory) ++ (stagesWords l ++ rest))

@@ -12,11 +12,11 @@ use Rattle.stage.specs.declared.StageKind.{StageKind}
 use Rattle.stage.specs.declared.SoundMemory.{SoundMemory}
 use Rattle.stage.specs.declared.Stage.{Stage}
 use Rattle.stage.specs.Stages.{kindsOf}
-use Rattle.recipe.specs.Records.{known}
+use Rattle.recipe.specs.Records.{ofStage}
 use Rattle.stage_words.specs.Layout.{memoryWords, word}
 use Rattle.stage_words.specs.laws.Storable.{Kept}
 use Rattle.stage_words.specs.laws.Reading.{length-memory, stage-same}
-use Rattle.stage_words.specs.laws.Runs.{before-run, after-run, from-run}
+use Rattle.words.specs.laws.Runs.{before-run, after-run, from-run}
 use Rattle.chain_words.specs.Kept.{keptWords, withSound}
 use Rattle.chain_words.specs.Layout.{counterWords, placeOf, stageAt, stagesFrom, counterAt, chainAt, kindsKnown, stands, chainOfWords}
 use Rattle.chain_words.specs.laws.Places.{memory-written, other-place}
@@ -121,7 +121,7 @@ kept-kind (s ∷ l) w i j = kept-kind l (sets w (8 + 18 * i + 7) (memoryWords (s
 pub same-kinds : (a b : List ℕ) (i n : ℕ) → ((j : ℕ) → word a (8 + 18 * j) ≡ word b (8 + 18 * j)) → kindsKnown a i n ≡ kindsKnown b i n
 unfolding kindsKnown
 same-kinds a b i zero h = refl
-same-kinds a b i (suc n) h = ap₂ (λ (x y : Bool). x && y) (ap known (h i)) (same-kinds a b (suc i) n h)
+same-kinds a b i (suc n) h = ap₂ (λ (x y : Bool). x && y) (ap ofStage (h i)) (same-kinds a b (suc i) n h)
 
 -- ---- memories and counters
 length-walked : (w : List ℕ) (l : List Stage) (blocks empty : ℕ) → length (withSound w l blocks empty) ≡ length w

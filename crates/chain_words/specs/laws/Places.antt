@@ -13,7 +13,7 @@ use Rattle.stage_words.specs.Layout.{memoryWords, stageWords, word, stageOf}
 use Rattle.stage_words.specs.Storable.{HeldFilter, TwoSamples, HeldStage, Small}
 use Rattle.stage_words.specs.laws.ReadBack.{memory-back, stage-back}
 use Rattle.stage_words.specs.laws.Reading.{length-memory, length-stage, kind-same, memory-same, stage-same}
-use Rattle.stage_words.specs.laws.Runs.{before-run, after-run, from-run}
+use Rattle.words.specs.laws.Runs.{before-run, after-run, from-run}
 use Rattle.chain_words.specs.Layout.{placeOf, stageAt}
 
 module _ (w : List ℕ) (i : ℕ) where

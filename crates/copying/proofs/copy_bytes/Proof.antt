@@ -4,8 +4,7 @@ use Prim.Native.Nat.{_-_, _≤_}
 use native.Mathlib.Omega.{arith}
 use lib.ListN.{drop}
 use Rattle.pcm.specs.Frames.{written}
-use Rattle.pcm.specs.laws.Writing.{Writing, writing-start, writing-byte, writing-as, writing-end}
-use Rattle.copying.proofs.Writing.{next-byte}
+use Rattle.pcm.specs.laws.Writing.{next-byte, Writing, writing-start, writing-byte, writing-as, writing-end}
 use Rattle.copying.proofs.copy_bytes.Statement.{statement}
 use Rattle.copying.proofs.copy_bytes.Tie as tie
 

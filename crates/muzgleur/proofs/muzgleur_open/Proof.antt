@@ -11,7 +11,8 @@ use Rattle.pcm.specs.declared.Verdict.the-variants.{Accepted}
 use Rattle.pipeline.specs.declared.Opened.{Opened}
 use Rattle.stage_words.specs.Storable.{HeldStage}
 use Rattle.chain_words.specs.Layout.{wordsOf, chainOfWords}
-use Rattle.muzgleur.proofs.Opened.{open-stands, number-some}
+use Rattle.pcm.specs.laws.Refusals.{number-within}
+use Rattle.muzgleur.proofs.Opened.{open-stands}
 use Rattle.muzgleur.proofs.muzgleur_open.Statement.{statement}
 use Rattle.muzgleur.proofs.muzgleur_open.Tie as tie
 
@@ -39,7 +40,7 @@ returns-3 c =
     let o = v .before .before .before in
     let n = o .before in (
       rw (le-leb 152 (length (n .before .before .before .args .chain .now)) (n .if1 .left), ← o .«open» .ensures, v .verdict .given .1, c .number .ensures),
-      λ z. absurd (number-some (v .verdict .given .0 .0) (sym (c .number .ensures) ∙ z)),
+      λ z. let n = number-within (v .verdict .given .0 .0) .0 in absurd (omega (arith, n, sym (c .number .ensures) ∙ z)),
     )
 
 pub muzgleur-open-spec : {M : Type 1} → statement M

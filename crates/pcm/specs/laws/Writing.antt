@@ -10,6 +10,10 @@ use lib.Seq.{take-suc-set, drop-set-lt, drop-cons}
 use Rattle.pcm.specs.Samples.{lowOf, highOf, stored}
 use Rattle.pcm.specs.Frames.{written}
 
+-- the next byte of a block, and what is left after it
+pub next-byte : (l : List ℕ) (i : ℕ) → i < length l → drop i l ≡ getD l i 0 ∷ drop (i + 1) l
+next-byte l i h = drop-cons l i 0 h ∙ ap (λ (k : ℕ). getD l i 0 ∷ drop k l) (sym (add-one i))
+
 -- `out`, which was `out₀` where the loop began, has its first j bytes written, `rest` is to follow, and from m on it is as it was:
 -- at the end it is `goal`
 pub record Writing (goal rest : List ℕ) (m : ℕ) (out₀ out : List ℕ) (j : ℕ) : Type 0 where

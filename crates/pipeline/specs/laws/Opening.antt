@@ -1,8 +1,8 @@
 -- Laws of the definitions in Opening. Assumes nothing.
 use mathlib.Core.Path.{_≡_, refl}
-use mathlib.Core.Bool.{true}
-use mathlib.Core.List.{List, [], _∷_}
-use Prim.Native.Nat.{ℕ, zero, suc, _<_}
+use mathlib.Core.Bool.{true, false}
+use mathlib.Core.List.{List, []}
+use Prim.Native.Nat.{ℕ, _-_, _<_}
 use native.Mathlib.Omega.{arith}
 use borrow.Author.Tests.{ltb-true}
 use lib.Dec.{ltb}
@@ -16,9 +16,10 @@ use Rattle.stage.specs.declared.StageKind.{StageKind}
 use Rattle.stage.specs.Stages.{stageAsOpened, formatAfter}
 use Rattle.pcm.specs.laws.Refusals.{ask-yes}
 use Rattle.recipe.specs.declared.Record.{Record}
-use Rattle.recipe.specs.Records.{recordAt, recordVerdict}
+use Rattle.recipe.specs.Records.{ofNote, kindAt, recordAt, recordVerdict}
+use Rattle.recipe.specs.laws.Records.{afterNext, records-none, records-next}
 use Rattle.opening.specs.declared.StageAnswer.the-variants as answer
-use Rattle.pipeline.specs.Opening.{opened, refused, front, nextKind, afterNext, openStages}
+use Rattle.pipeline.specs.Opening.{opened, refused, front, nextKind, openRecords, openStages}
 use Rattle.opening.specs.Opening.{settingsAllowed, recordSuits, stageVerdict, stageKindOf, stageAnswerOf, stageAnswer}
 
 pub zero-not-one : {X : Type 0} → _≡_ {A = ℕ} 0 1 → X
@@ -50,25 +51,25 @@ module _ (more : ℕ) (f : PcmFormat) (r : Record) where
 
 -- ---- one record more
 pub open-none : (more : ℕ) (f : PcmFormat) → openStages more f [] ≡ opened []
-unfolding openStages
-open-none zero f = refl
-open-none (suc more) f = refl
+unfolding openStages openRecords
+open-none more f = rw records-none
 
-module _ (f : PcmFormat) where
-  pub open-short : (more : ℕ) (left : List ℕ) {x : Error} → 0 < length left → recordVerdict left ≡ Refused x → openStages more f left ≡ refused x
-  unfolding openStages
-  open-short more [] h e = absurd (let z : ⊥ = omega arith in z)
-  open-short zero (b ∷ left) h e = rw e
-  open-short (suc more) (b ∷ left) h e = rw e
+module _ (f : PcmFormat) (more : ℕ) (left : List ℕ) (h : 0 < length left) where
+  pub open-short : {x : Error} → recordVerdict left ≡ Refused x → openStages more f left ≡ refused x
+  unfolding openStages openRecords
+  open-short e = rw (records-next left h, e)
 
-  pub open-unfit : (more : ℕ) (left : List ℕ) {x : Error} → 0 < length left → recordVerdict left ≡ Accepted → stageVerdict more f (recordAt left) ≡ Refused x → openStages more f left ≡ refused x
-  unfolding openStages
-  open-unfit more [] h e k = absurd (let z : ⊥ = omega arith in z)
-  open-unfit zero (b ∷ left) h e k = rw (e, k)
-  open-unfit (suc more) (b ∷ left) h e k = rw (e, k)
+  module _ (e : recordVerdict left ≡ Accepted) where
+    pub open-note : ofNote (kindAt left) ≡ true → openStages more f left ≡ openStages more f (afterNext left)
+    unfolding openStages openRecords
+    open-note n = rw (records-next left h, e, n)
 
-  pub open-next : (more : ℕ) (left : List ℕ) → 0 < length left → recordVerdict left ≡ Accepted → stageVerdict (suc more) f (recordAt left) ≡ Accepted
-      → openStages (suc more) f left ≡ front (stageAsOpened (nextKind f left)) (openStages more (formatAfter f (nextKind f left)) (afterNext left))
-  unfolding openStages
-  open-next more [] h e k = absurd (let z : ⊥ = omega arith in z)
-  open-next more (b ∷ left) h e k = rw (e, k)
+    module _ (s : ofNote (kindAt left) ≡ false) where
+      pub open-unfit : {x : Error} → stageVerdict more f (recordAt left) ≡ Refused x → openStages more f left ≡ refused x
+      unfolding openStages openRecords
+      open-unfit k = rw (records-next left h, e, s, k)
+
+      pub open-next : stageVerdict more f (recordAt left) ≡ Accepted
+          → openStages more f left ≡ front (stageAsOpened (nextKind f left)) (openStages (more - 1) (formatAfter f (nextKind f left)) (afterNext left))
+      unfolding openStages openRecords
+      open-next k = rw (records-next left h, e, s, k)

@@ -1,32 +1,35 @@
--- A recipe that opens is written back unchanged, stage by stage. Assumes nothing.
+-- A recipe that opens is written back without its notes, stage by stage. Assumes nothing.
 use mathlib.Core.Path.{_≡_, refl, sym, ap, ap₂, _∙_}
 use mathlib.Core.Bool.{Bool, true, false}
-use mathlib.Core.List.{List, [], _∷_, _++_}
-use Prim.Native.Nat.{ℕ, zero, suc, _-_, _≤_, _<_}
+use mathlib.Core.List.{List, [], _∷_, _++_, map}
+use Prim.Native.Nat.{ℕ, _-_, _≤_, _<_}
 use mathlib.Core.Logic.{_⊎_, inl, inr, ⊎-elim}
 use native.Mathlib.Omega.{arith}
-use lib.ListN.{length, drop, replicate, take-append-drop}
+use lib.ListN.{length, replicate, length-append}
 use lib.Seq.{take-at}
 use Rattle.pcm.specs.declared.PcmFormat.{PcmFormat}
 use Rattle.pcm.specs.declared.Verdict.{Verdict}
 use Rattle.pcm.specs.declared.Verdict.the-variants.{Accepted, Refused}
 use Rattle.pcm.specs.Formats.{formatAllowed}
-use Rattle.pcm.specs.Samples.{Bytes}
-use Rattle.pcm.specs.laws.Frames.{all-drop}
+use Rattle.pcm.specs.Samples.{All, Bytes}
+use Rattle.pcm.specs.Frames.{flat}
 use Rattle.rates.specs.Rates.{reduced}
 use Rattle.stage.specs.declared.StageKind.{StageKind}
 use Rattle.stage.specs.declared.Stage.{Stage}
 use Rattle.stage.specs.Stages.{kindsOf, stageAsOpened, formatAfter}
 use Rattle.recipe.specs.declared.Record.{Record}
 use Rattle.recipe.specs.declared.Record.the-variants as rec
-use Rattle.recipe.specs.Records.{recordBytes, recordAt, recordVerdict}
-use Rattle.recipe.specs.laws.Records.{whole-record}
-use Rattle.recipe.specs.laws.RoundTrip.{written-read}
+use Rattle.recipe.specs.Records.{ofNote, kindAt, recordBytes, recordAt, recordVerdict, records, WholeRecords}
+use Rattle.recipe.specs.Notes.{stageHere}
+use Rattle.recipe.specs.RoundTrip.{Fitting}
+use Rattle.recipe.specs.Theorems.{written-accepted, written-no-note, written-record, after-written}
+use Rattle.recipe.specs.laws.Records.{record-four, whole-record, whole-stage, records-next}
+use Rattle.recipe.specs.laws.RoundTrip.{written-read, read-fitting}
 use Rattle.pipeline.specs.declared.Pipeline.{Pipeline}
 use Rattle.pipeline.specs.declared.Opened.{Opened}
-use Rattle.pipeline.specs.Opening.{Stages, opened, refused, front, nextKind, afterNext, openStages, unusedStage, chainOf, openCall}
+use Rattle.pipeline.specs.Opening.{Stages, opened, refused, asked, front, nextKind, openRecords, openStages, unusedStage, chainOf, openCall}
 use Rattle.opening.specs.Opening.{stageVerdict, stageKindOf}
-use Rattle.pipeline.specs.laws.Opening.{zero-not-one, open-none, open-short, open-unfit, open-next, stage-fits}
+use Rattle.pipeline.specs.laws.Opening.{zero-not-one, open-none, stage-fits}
 use Rattle.writing.specs.WritingBack.{recordOfStage, recipeOf}
 use Rattle.pipeline.specs.WritingBack.{stagesOf}
 use Rattle.pipeline.specs.RoundTrip.{OpenedFrom}
@@ -41,68 +44,105 @@ record-kept f (rec.Resample input output) = refl
 record-kept f (rec.DcBlock corner) = refl
 record-kept f (rec.Biquad rate bits) = refl
 
--- ---- the first record of bytes that open
-pub record First (more : ℕ) (f : PcmFormat) (left : List ℕ) (ss : List Stage) : Type 0 where
-  pub rest : List Stage
-  pub fewer : ℕ
-  pub more-is : more ≡ suc fewer
-  pub read : recordVerdict left ≡ Accepted
-  pub stages-are : ss ≡ stageAsOpened (nextKind f left) ∷ rest
-  pub then : openStages fewer (formatAfter f (nextKind f left)) (afterNext left) ≡ opened rest
+-- ---- the first of records that open
+-- a note, and the others open
+record NoteFirst (more : ℕ) (f : PcmFormat) (left : List ℕ) (later : List (List ℕ)) (ss : List Stage) : Type 0 where
+  read : recordVerdict left ≡ Accepted
+  note : ofNote (kindAt left) ≡ true
+  then : openRecords more f later ≡ opened ss
+
+-- a stage, and the others open
+record StageFirst (more : ℕ) (f : PcmFormat) (left : List ℕ) (later : List (List ℕ)) (ss : List Stage) : Type 0 where
+  rest : List Stage
+  read : recordVerdict left ≡ Accepted
+  stage : ofNote (kindAt left) ≡ false
+  fits : stageVerdict more f (recordAt left) ≡ Accepted
+  stages-are : ss ≡ stageAsOpened (nextKind f left) ∷ rest
+  then : openRecords (more - 1) (formatAfter f (nextKind f left)) later ≡ opened rest
 
 -- the first stage, and the others
 split-front : (s : Stage) (x : Stages) (ss : List Stage) → front s x ≡ opened ss → (rest : List Stage) × (ss ≡ s ∷ rest) × (x ≡ opened rest)
 split-front s (opened rest) ss e = (rest, cc, refl)
 split-front s (refused x) ss e = zero-not-one (cc)
 
-first-record : (more : ℕ) (f : PcmFormat) (left : List ℕ) (ss : List Stage) → 0 < length left → openStages more f left ≡ opened ss → First more f left ss
-first-record more f left ss h e = by-record (recordVerdict left) refl
+by-first : (more : ℕ) (f : PcmFormat) (left : List ℕ) (later : List (List ℕ)) (ss : List Stage) → openRecords more f (left ∷ later) ≡ opened ss
+    → NoteFirst more f left later ss ⊎ StageFirst more f left later ss
+unfolding openRecords
+by-first more f left later ss e = by-record (recordVerdict left) refl (ofNote (kindAt left)) refl (stageVerdict more f (recordAt left)) refl
   where
-    taken : (n : ℕ) → more ≡ n → recordVerdict left ≡ Accepted → stageVerdict more f (recordAt left) ≡ Accepted → First more f left ss
-    taken zero q a b = let z = stage-fits more f (recordAt left) b .0 in absurd (let w : ⊥ = omega arith in w)
-    taken (suc n) q a b =
-        let o = open-next f n left h a (rw q at b) in
-        let p = split-front (stageAsOpened (nextKind f left)) (openStages n (formatAfter f (nextKind f left)) (afterNext left)) ss (sym o ∙ ap (λ (m : ℕ). openStages m f left) (sym q) ∙ e) in
-        record { rest = p .0; fewer = n; more-is = q; read = a; stages-are = p .1; then = p .2 }
+    by-record : (v : Verdict) → recordVerdict left ≡ v → (t : Bool) → ofNote (kindAt left) ≡ t → (w : Verdict) → stageVerdict more f (recordAt left) ≡ w
+        → NoteFirst more f left later ss ⊎ StageFirst more f left later ss
+    by-record (Refused x) a t n w b = let o = rw a at e in zero-not-one (cc)
+    by-record Accepted a true n w b = inl (record { read = a; note = n; then = rw (a, n) at e })
+    by-record Accepted a false n (Refused x) b = let o = rw (a, n, b) at e in zero-not-one (cc)
+    by-record Accepted a false n Accepted b =
+        let p = split-front (stageAsOpened (nextKind f left)) (openRecords (more - 1) (formatAfter f (nextKind f left)) later) ss (rw (a, n, b) at e) in
+        inr (record { rest = p .0; read = a; stage = n; fits = b; stages-are = p .1; then = p .2 })
 
-    by-stage : (v : Verdict) → recordVerdict left ≡ Accepted → stageVerdict more f (recordAt left) ≡ v → First more f left ss
-    by-stage Accepted a b = taken more refl a b
-    by-stage (Refused x) a b = let o = open-unfit f more left h a b in zero-not-one (cc)
-
-    by-record : (v : Verdict) → recordVerdict left ≡ v → First more f left ss
-    by-record Accepted a = by-stage (stageVerdict more f (recordAt left)) a refl
-    by-record (Refused x) a = let o = open-short f more left h a in zero-not-one (cc)
-
--- ---- stages that were opened: none, or a first and others
-by-first : (more : ℕ) (f : PcmFormat) (left : List ℕ) (ss : List Stage) → openStages more f left ≡ opened ss → ((left ≡ []) × (ss ≡ [])) ⊎ First more f left ss
-by-first more f [] ss e = let o = open-none more f in inl (refl, cc)
-by-first more f (b ∷ left) ss e = inr (first-record more f (b ∷ left) ss (omega arith) e)
-
-pub opened-few : (more : ℕ) (f : PcmFormat) (left : List ℕ) (ss : List Stage) → openStages more f left ≡ opened ss → length ss ≤ more
-opened-few zero f left ss e = ⊎-elim (λ n. rw (n .1) (omega arith)) (λ p. let m = p .more-is in absurd (let w : ⊥ = omega arith in w)) (by-first zero f left ss e)
-opened-few (suc more) f left ss e =
+-- ---- records that were opened
+few-stages : (more : ℕ) (f : PcmFormat) (rs : List (List ℕ)) (ss : List Stage) → openRecords more f rs ≡ opened ss → length ss ≤ more
+unfolding openRecords
+few-stages more f [] ss e = let z : ss ≡ [] = cc in rw z (omega arith)
+few-stages more f (left ∷ later) ss e =
     ⊎-elim
-    (λ n. rw (n .1) (omega arith))
+    (λ p. few-stages more f later ss (p .then))
     (λ p.
-    let m : p .fewer ≡ more = (let q = p .more-is in omega arith) in
-    let i = opened-few more (formatAfter f (nextKind f left)) (afterNext left) (p .rest) (rw m at (p .then)) in
+    let m = stage-fits more f (recordAt left) (p .fits) .0 in
+    let i = few-stages (more - 1) (formatAfter f (nextKind f left)) later (p .rest) (p .then) in
     rw (p .stages-are) (omega arith))
-    (by-first (suc more) f left ss e)
+    (by-first more f left later ss e)
 
-pub opened-recipe : (more : ℕ) (f : PcmFormat) (left : List ℕ) (ss : List Stage) → Bytes left → openStages more f left ≡ opened ss → recipeOf ss ≡ left
-unfolding recipeOf
-opened-recipe zero f left ss b e = ⊎-elim (λ n. rw (n .0, n .1)) (λ p. let m = p .more-is in absurd (let w : ⊥ = omega arith in w)) (by-first zero f left ss e)
-opened-recipe (suc more) f left ss b e =
+pub opened-few : (more : ℕ) (f : PcmFormat) (bytes : List ℕ) (ss : List Stage) → openStages more f bytes ≡ opened ss → length ss ≤ more
+unfolding openStages
+opened-few more f bytes ss e = few-stages more f (records bytes) ss e
+
+-- every record is whole
+pub whole-records : (more : ℕ) (f : PcmFormat) (rs : List (List ℕ)) (ss : List Stage) → openRecords more f rs ≡ opened ss → WholeRecords rs
+whole-records more f [] ss e = tt
+whole-records more f (left ∷ later) ss e =
     ⊎-elim
-    (λ n. rw (n .0, n .1))
+    (λ p. (p .read, whole-records more f later ss (p .then)))
+    (λ p. (p .read, whole-records (more - 1) (formatAfter f (nextKind f left)) later (p .rest) (p .then)))
+    (by-first more f left later ss e)
+
+-- the records of the stages are those that are no notes
+pub opened-recipe : (more : ℕ) (f : PcmFormat) (rs : List (List ℕ)) (ss : List Stage) → All Bytes rs → openRecords more f rs ≡ opened ss → recipeOf ss ≡ flat (map stageHere rs)
+unfolding openRecords recipeOf
+opened-recipe more f [] ss b e = let z : ss ≡ [] = cc in rw z
+opened-recipe more f (left ∷ later) ss b e =
+    ⊎-elim
+    (λ p. rw (p .note) (opened-recipe more f later ss (b .1) (p .then)))
     (λ p.
-    let m : p .fewer ≡ more = (let q = p .more-is in omega arith) in
-    let n : ℕ = length (recordBytes (recordAt left)) in
-    let i : recipeOf (p .rest) ≡ drop n left = opened-recipe more (formatAfter f (nextKind f left)) (drop n left) (p .rest) (all-drop _ n left b) (rw m at (p .then)) in
+    let w = whole-stage left (whole-record left (p .read)) (p .stage) in
     ap recipeOf (p .stages-are)
-    ∙ ap₂ (λ (u v : List ℕ). u ++ v) (ap recordBytes (record-kept f (recordAt left)) ∙ written-read left (whole-record left (p .read)) b) i
-    ∙ take-append-drop n left)
-    (by-first (suc more) f left ss e)
+    ∙ rw (p .stage)
+    (ap₂ (λ (u v : List ℕ). u ++ v) (ap recordBytes (record-kept f (recordAt left)) ∙ written-read left w (b .0))
+    (opened-recipe (more - 1) (formatAfter f (nextKind f left)) later (p .rest) (b .1) (p .then))))
+    (by-first more f left later ss e)
+
+-- ---- notes are passed over
+-- a stage's record at the front
+open-record : (more : ℕ) (f : PcmFormat) (r : Record) (rest : List ℕ) → Fitting r
+    → openStages more f (recordBytes r ++ rest) ≡ asked (stageVerdict more f r) (front (stageAsOpened (stageKindOf f r)) (openStages (more - 1) (formatAfter f (stageKindOf f r)) rest))
+unfolding openStages openRecords
+open-record more f r rest fit =
+    let n : 0 < length (recordBytes r ++ rest) = omega (arith, length-append (recordBytes r) rest, record-four r) in
+    rw (records-next (recordBytes r ++ rest) n, written-accepted r rest, written-no-note r rest, written-record r rest fit, after-written r rest)
+
+-- whole records open as they do without the notes among them
+pub open-without-notes : (rs : List (List ℕ)) → All Bytes rs → WholeRecords rs → (more : ℕ) (f : PcmFormat) → openStages more f (flat (map stageHere rs)) ≡ openRecords more f rs
+unfolding openRecords
+open-without-notes [] b w more f = open-none more f
+open-without-notes (left ∷ later) b w more f = by-kind (ofNote (kindAt left)) refl (open-without-notes later (b .1) (w .1))
+  where
+    by-kind : (t : Bool) → ofNote (kindAt left) ≡ t → ((m : ℕ) (g : PcmFormat) → openStages m g (flat (map stageHere later)) ≡ openRecords m g later)
+        → openStages more f (stageHere left ++ flat (map stageHere later)) ≡ openRecords more f (left ∷ later)
+    by-kind true n then = rw (w .0, n) (then more f)
+    by-kind false n then =
+        let s = whole-stage left (whole-record left (w .0)) n in
+        rw (w .0, n, ← written-read left s (b .0))
+        (open-record more f (recordAt left) (flat (map stageHere later)) (read-fitting left s (b .0))
+        ∙ ap (λ (x : Stages). asked (stageVerdict more f (recordAt left)) (front (stageAsOpened (nextKind f left)) x)) (then (more - 1) (formatAfter f (nextKind f left))))
 
 -- a recipe goes by the kinds of the stages alone
 pub recipe-of-kinds : (a b : List Stage) → kindsOf a ≡ kindsOf b → recipeOf a ≡ recipeOf b

@@ -5,7 +5,7 @@ use mathlib.Core.Path.{_≡_}
 use Prim.Native.Nat.{ℕ, _*_, _/_, _%_, _≤_, _<_}
 use native.Mathlib.Omega.{arith}
 use Rattle.pcm.specs.declared.PcmFormat.{PcmFormat}
-use Rattle.pcm.specs.declared.Error.the-variants.{InvalidGeometry, TooManyFrames}
+use Rattle.pcm.specs.declared.Error.the-variants.{InvalidGeometry, TooLong}
 use Rattle.pcm.specs.declared.Verdict.the-variants.{Accepted, Refused}
 use Rattle.questions.specs.Walk.{sizeVerdict}
 use Rattle.questions.proofs.size_question.Statement.{statement}
@@ -25,7 +25,7 @@ module _ (f : PcmFormat) (size frame : ℕ) (e : frame ≡ f .channels * 2) wher
     ragged w = rw (lt-ltb 0 size some, ← e, ne-eqb (size % frame) 0 w)
 
     module _ (w : size % frame ≡ 0) where
-      long : 8192 < size / frame → Refused TooManyFrames ≡ sizeVerdict f size
+      long : 8192 < size / frame → Refused TooLong ≡ sizeVerdict f size
       unfolding sizeVerdict
       long m = rw (lt-ltb 0 size some, ← e, eq-eqb (size % frame) 0 w, lt-leb (size / frame) 8192 m)
 

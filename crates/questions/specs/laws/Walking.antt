@@ -8,7 +8,7 @@ use native.Mathlib.Omega.{arith}
 use borrow.Author.Tests.{leb-true}
 use lib.Dec.{eqb, leb}
 use Rattle.pcm.specs.declared.PcmFormat.{PcmFormat}
-use Rattle.pcm.specs.declared.Error.the-variants.{InvalidGeometry, TooManyFrames}
+use Rattle.pcm.specs.declared.Error.the-variants.{InvalidGeometry, TooLong}
 use Rattle.pcm.specs.declared.Verdict.the-variants.{Accepted}
 use Rattle.pcm.specs.Refusals.{ask}
 use Rattle.stage.specs.declared.Stage.{Stage}
@@ -29,7 +29,7 @@ module _ (f : PcmFormat) (size : ℕ) where
   unfolding blockFrames sizeVerdict
   frames-most = go (wholeFrames f size) (leb (size / (f .channels * 2)) 8192) refl
     where
-      go : (t u : Bool) → leb (size / (f .channels * 2)) 8192 ≡ u → framesIf (ask t InvalidGeometry (ask u TooManyFrames Accepted)) (size / (f .channels * 2)) ≤ 8192
+      go : (t u : Bool) → leb (size / (f .channels * 2)) 8192 ≡ u → framesIf (ask t InvalidGeometry (ask u TooLong Accepted)) (size / (f .channels * 2)) ≤ 8192
       go true true e = leb-true _ _ e
       go true false e = omega arith
       go false u e = omega arith

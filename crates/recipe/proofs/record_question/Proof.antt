@@ -1,18 +1,16 @@
 -- `recipe::record_question` meets its contract. Assumes nothing.
 use borrow.Author.Needs.{needs}
-use mathlib.Core.Path.{_≡_, sym, ap, _∙_}
+use mathlib.Core.Path.{_≡_, sym, ap, ap₂, _∙_}
 use mathlib.Core.Bool.{true, false}
-use Prim.Native.Nat.{ℕ, _+_, _*_}
-use native.Mathlib.Omega.{arith}
-use borrow.Author.Tests.{le-leb, lt-leb, eq-eqb, ne-eqb, not-true, not-false}
-use lib.Dec.{leb, eqb}
+use Prim.Native.Nat.{ℕ, _+_}
+use borrow.Author.Tests.{le-leb, lt-leb, not-true, not-false}
+use lib.Dec.{leb}
 use mathlib.Core.List.{List}
 use lib.ListN.{length}
 use Rattle.pcm.specs.declared.Error.the-variants.{ShortRecord}
 use Rattle.pcm.specs.declared.Verdict.the-variants.{Accepted}
 use Rattle.pcm.specs.Refusals.{ask}
-use Rattle.recipe.specs.Records.{recordVerdict, known, fieldCount, lengthAt, kindAt}
-use Rattle.recipe.proofs.Records.{few-fields}
+use Rattle.recipe.specs.Records.{recordVerdict, known, lengthVerdict, lengthAt, kindAt}
 use Rattle.recipe.proofs.record_question.Statement.{statement}
 use Rattle.recipe.proofs.record_question.Tie as tie
 
@@ -35,12 +33,9 @@ is-known c = sym (c .before .known .ensures) ∙ not-false _ (c .if3 .left)
 told : (c : tie.Else3) → known (kindAt (leftOf (c .before .before .before .before .before .before .before))) ≡ true
 told c = rw (kind-is (c .before)) at (is-known c)
 
--- the length that the kind has
-due : (c : tie.After-field-count) → 2 + 4 * c .field-count .result ≡ 2 + 4 * fieldCount (kindAt (leftOf (c .before .before .before .before .before .before .before .before)))
-due c = ap (λ (n : ℕ). 2 + 4 * n) (c .field-count .ensures ∙ ap fieldCount (kind-is (c .before .before)))
-
-length-due : (c : tie.Else4) → eqb (lengthAt (leftOf (c .before .before .before .before .before .before .before .before .before))) (2 + 4 * fieldCount (kindAt (leftOf (c .before .before .before .before .before .before .before .before .before)))) ≡ true
-length-due c = eq-eqb _ _ (sym (c .before .before .before .before .before .before .get-u16 .ensures) ∙ c .if4 .left ∙ due (c .before))
+-- what the length's question comes to
+sized : (c : tie.After-length-question) → let left = leftOf (c .before .before .before .before .before .before .before .before) in c .length-question .result ≡ lengthVerdict (kindAt left) (lengthAt left)
+sized c = c .length-question .ensures ∙ ap₂ lengthVerdict (kind-is (c .before .before)) (c .before .before .before .before .before .get-u16 .ensures)
 
 returns : tie.Need-returns
 unfolding recordVerdict
@@ -59,35 +54,39 @@ returns-3 c =
 returns-4 : tie.Need-returns-4
 unfolding recordVerdict
 returns-4 c =
-    let e = c .before in
-    let n : eqb (lengthAt (leftOf (e .before .before .before .before .before .before .before .before))) (2 + 4 * fieldCount (kindAt (leftOf (e .before .before .before .before .before .before .before .before)))) ≡ false =
-    ne-eqb _ _ (λ q. c .if4 .taken (e .before .before .before .before .before .get-u16 .ensures ∙ q ∙ sym (due e))) in
-    rw (four (e .before .before .before .before .before .before), two (e .before .before .before .before), told (e .before), n)
+    let e = c .before .before .before in
+    let v = sym (sized e) ∙ c .before .sized .given .1 in
+    rw (four (e .before .before .before .before .before .before), two (e .before .before .before .before), told (e .before), v)
 
 -- all but the last question answered yes
-but-last : (c : tie.Else4) → let left = leftOf (c .before .before .before .before .before .before .before .before .before) in
+but-last : (c : tie.After-enum-told) → let left = leftOf (c .before .before .before .before .before .before .before .before .before .before) in
     recordVerdict left ≡ ask (leb (2 + lengthAt left) (length left)) ShortRecord Accepted
 unfolding recordVerdict
 but-last c =
-    let e = c .before in
-    rw (four (e .before .before .before .before .before .before), two (e .before .before .before .before), told (e .before), length-due c)
+    let e = c .before .before in
+    let v = sym (sized e) ∙ c .enum-told .given .1 in
+    rw (four (e .before .before .before .before .before .before), two (e .before .before .before .before), told (e .before), v)
+
+-- whether the whole record is there
+there : (c : tie.After-enum-told) → let e = c .before .before .before .before .before .before .before in
+    leb (2 + e .get-u16 .result) (length (leftOf (e .before .before .before))) ≡ leb (2 + lengthAt (leftOf (e .before .before .before))) (length (leftOf (e .before .before .before)))
+there c = let e = c .before .before .before .before .before .before .before in ap (λ (n : ℕ). leb (2 + n) (length (leftOf (e .before .before .before)))) (e .get-u16 .ensures)
 
 returns-5 : tie.Need-returns-5
-returns-5 c = let e = c .before .before in rw (but-last (c .before), rw (e .before .before .before .before .before .get-u16 .ensures) at (lt-leb _ _ (c .if5 .taken)))
+returns-5 c = rw (but-last (c .before), sym (there (c .before)) ∙ not-true _ (c .if4 .taken))
 
 returns-6 : tie.Need-returns-6
-returns-6 c = let e = c .before .before in rw (but-last (c .before), rw (e .before .before .before .before .before .get-u16 .ensures) at (le-leb _ _ (c .if5 .left)))
+returns-6 c = rw (but-last (c .before), sym (there (c .before)) ∙ not-false _ (c .if4 .left))
 
 pub record-question-spec : {M : Type 1} → statement M
 record-question-spec = tie.close (tie.spec
     returns
-    (λ c κs. search needs) (λ c. search needs)
+    (λ c κs. search needs) (λ c. search needs) (λ c. search needs)
     returns-2
     (λ c κs. search needs) (λ c κs. search needs)
     returns-3
     (λ c κs. is-known c)
-    (λ c. omega (arith, due c, few-fields (kindAt (leftOf (c .before .before .before .before .before .before .before .before)))))
-    (λ c. omega (arith, due c, few-fields (kindAt (leftOf (c .before .before .before .before .before .before .before .before)))))
+    (λ c. search needs)
     returns-4
     (λ c. search needs)
     returns-5

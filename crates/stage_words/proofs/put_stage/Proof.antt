@@ -7,7 +7,7 @@ use lib.ListN.{length}
 use lib.Seq.{sets}
 use Rattle.stage_words.specs.Layout.{settingWords, memoryWords, stageWords}
 use Rattle.stage_words.specs.laws.Reading.{length-settings}
-use Rattle.stage_words.specs.laws.Runs.{sets-append}
+use Rattle.words.specs.laws.Runs.{sets-append}
 use Rattle.stage_words.proofs.put_stage.Statement.{statement}
 use Rattle.stage_words.proofs.put_stage.Tie as tie
 

@@ -17,7 +17,7 @@ use Rattle.stage_words.specs.Layout.{filterWords, stateWords, heldAt, he
 use Rattle.stage_words.specs.Storable.{TwoSamples, HeldFilter, HeldBy}
 use Rattle.stage_words.specs.laws.ReadBack.{filter-back, state-back}
 use Rattle.stage_words.specs.laws.Reading.{kind-same, filter-same, state-same}
-use Rattle.stage_words.specs.laws.Runs.{in-run, below-run, above-run}
+use Rattle.words.specs.laws.Runs.{in-run, below-run, above-run}
 
 -- ---- where the words of a memory stand: past the settings, and within the stage's eighteen
 pub held-past : (k : StageKind) → 7 ≤ heldAt k

@@ -1,8 +1,8 @@
 -- What opening accepts is a chain as `FreshlyOpened` says. Assumes nothing.
 use mathlib.Core.Path.{_≡_, refl, sym, ap, ap₂, _∙_, subst}
-use mathlib.Core.Bool.{Bool, true, _&&_}
+use mathlib.Core.Bool.{Bool, true, false, _&&_, cond}
 use mathlib.Core.List.{List, [], _∷_, _++_, map}
-use Prim.Native.Nat.{ℕ, zero, suc, _-_, _≤_}
+use Prim.Native.Nat.{ℕ, _-_, _≤_, _<_}
 use native.Mathlib.Nat.{div-le-self}
 use native.Mathlib.Omega.{arith}
 use borrow.Author.Tests.{lt-ltb, le-leb, eq-eqb}
@@ -21,9 +21,9 @@ use Rattle.stage.specs.Stages.{memoryAsOpened, stageAsOpened, formatAfter}
 use Rattle.stage.specs.Rooms.{ratesSuit, stageSuits}
 use Rattle.recipe.specs.declared.Record.{Record}
 use Rattle.recipe.specs.declared.Record.the-variants as rec
-use Rattle.recipe.specs.Records.{recordAt, recordVerdict}
+use Rattle.recipe.specs.Records.{ofNote, kindAt, recordAt, recordVerdict, records}
 use Rattle.pipeline.specs.declared.Pipeline.{Pipeline}
-use Rattle.pipeline.specs.Opening.{Stages, opened, refused, asked, front, nextKind, afterNext, openStages, unusedStage, chainOf, openedOf}
+use Rattle.pipeline.specs.Opening.{Stages, opened, refused, asked, front, nextKind, openRecords, openStages, unusedStage, chainOf, openedOf}
 use Rattle.opening.specs.Opening.{settingsAllowed, stageVerdict, stageKindOf, recordSuits}
 use Rattle.pipeline.specs.laws.Opening.{zero-not-one, stage-fits}
 use Rattle.block.specs.BlockCall.{suited}
@@ -82,32 +82,38 @@ asked-first : (more : ℕ) (f : PcmFormat) (v : Verdict) (s : Stages) → (v ≡
 asked-first more f Accepted s h = h refl
 asked-first more f (Refused e) s h = tt
 
-one-more : (more : ℕ) (f : PcmFormat) (k : StageKind) → stageSuits f k memoryAsOpened ≡ true → RatesReduced k
-    → (s : Stages) → UnlessRefused more (formatAfter f k) s → UnlessRefused (suc more) f (front (stageAsOpened k) s)
+-- a note, or a stage
+either-opened : (more : ℕ) (f : PcmFormat) (note : Bool) (a b : Stages) → UnlessRefused more f a → UnlessRefused more f b → UnlessRefused more f (cond note a b)
+either-opened more f true a b h k = h
+either-opened more f false a b h k = k
+
+one-more : (more : ℕ) (f : PcmFormat) (k : StageKind) → 0 < more → stageSuits f k memoryAsOpened ≡ true → RatesReduced k
+    → (s : Stages) → UnlessRefused (more - 1) (formatAfter f k) s → UnlessRefused more f (front (stageAsOpened k) s)
 unfolding suited
-one-more more f k h r (opened ss) v = record {
+one-more more f k n h r (opened ss) v = record {
   kinds = k ∷ v .kinds;
   stages = ap (λ (l : List Stage). stageAsOpened k ∷ l) (v .stages);
   few = omega (arith, v .few);
   suit = and-true h (v .suit);
   rates = (r, v .rates);
 }
-one-more more f k h r (refused e) v = tt
+one-more more f k n h r (refused e) v = tt
 
-pub stages-opened : (more : ℕ) (f : PcmFormat) (left : List ℕ) → UnlessRefused more f (openStages more f left)
+records-opened : (more : ℕ) (f : PcmFormat) (rs : List (List ℕ)) → UnlessRefused more f (openRecords more f rs)
+unfolding openRecords
+records-opened more f [] = no-stages more f
+records-opened more f (left ∷ later) =
+    asked-first more f (recordVerdict left) _ (λ d.
+    either-opened more f (ofNote (kindAt left)) (openRecords more f later) _ (records-opened more f later)
+    (asked-first more f (stageVerdict more f (recordAt left)) _ (λ e.
+    let w = stage-fits more f (recordAt left) e in
+    one-more more f (nextKind f left) (w .0) (kind-suits f (recordAt left) (w .1) (w .2)) (kind-reduced f (recordAt left))
+    (openRecords (more - 1) (formatAfter f (nextKind f left)) later)
+    (records-opened (more - 1) (formatAfter f (nextKind f left)) later))))
+
+pub stages-opened : (more : ℕ) (f : PcmFormat) (bytes : List ℕ) → UnlessRefused more f (openStages more f bytes)
 unfolding openStages
-stages-opened zero f [] = no-stages zero f
-stages-opened zero f (b ∷ left) =
-    asked-first zero f (recordVerdict (b ∷ left)) _ (λ d.
-    asked-first zero f (stageVerdict zero f (recordAt (b ∷ left))) (opened []) (λ e. no-stages zero f))
-stages-opened (suc more) f [] = no-stages (suc more) f
-stages-opened (suc more) f (b ∷ left) =
-    asked-first (suc more) f (recordVerdict (b ∷ left)) _ (λ d.
-    asked-first (suc more) f (stageVerdict (suc more) f (recordAt (b ∷ left))) _ (λ e.
-    let w = stage-fits (suc more) f (recordAt (b ∷ left)) e in
-    one-more more f (nextKind f (b ∷ left)) (kind-suits f (recordAt (b ∷ left)) (w .1) (w .2)) (kind-reduced f (recordAt (b ∷ left)))
-    (openStages more (formatAfter f (nextKind f (b ∷ left))) (afterNext (b ∷ left)))
-    (stages-opened more (formatAfter f (nextKind f (b ∷ left))) (afterNext (b ∷ left)))))
+stages-opened more f bytes = records-opened more f (records bytes)
 
 -- ---- the chain
 module _ (f : PcmFormat) (allowed : formatAllowed f ≡ true) where

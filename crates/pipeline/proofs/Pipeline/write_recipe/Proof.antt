@@ -5,16 +5,18 @@ use mathlib.Core.Path.{_≡_, refl, sym, ap, _∙_}
 use Prim.Native.Nat.{ℕ, _≤_}
 use lib.ListN.{length}
 use Rattle.pcm.specs.Refusals.{roomVerdict}
+use Rattle.pcm.specs.laws.Refusals.{room-enough}
 use Rattle.pcm.specs.declared.Verdict.the-variants.{Refused}
 use Rattle.writing.specs.WritingBack.{recipeOf}
-use Rattle.pipeline.specs.WritingBack.{stagesOf, writeVerdict}
-use Rattle.pipeline.proofs.Writing.{room-there, concluded, wrote, few-verdict}
+use Rattle.pipeline.specs.WritingBack.{stagesOf, writeVerdict, writeCall}
+use Rattle.pipeline.specs.laws.WritingBack.{concluded, wrote}
+use Rattle.pipeline.proofs.Writing.{few-verdict}
 use Rattle.pipeline.proofs.Pipeline.write_recipe.Statement.{statement}
 use Rattle.pipeline.proofs.Pipeline.write_recipe.Tie as tie
 
 returns : tie.Need-returns
-unfolding writeVerdict
-returns c = let a = c .before .before .args in concluded (a .self) (a .out .now) _ _ (Refused _) (rw (lt-leb _ 8 (c .if1 .taken))) refl
+unfolding writeCall writeVerdict
+returns c = let a = c .before .before .args in concluded (writeVerdict (a .self) (length (a .out .now))) (recipeOf (stagesOf (a .self))) (a .out .now) _ _ (Refused _) (rw (lt-leb _ 8 (c .if1 .taken))) refl
 
 abbrev start : tie.After-require-room → tie.Start
 start c = c .before .before .before .before .before .before
@@ -33,20 +35,22 @@ room : (c : tie.After-enum-told) → let a = start (c .before .before) .args in
 room c =
     let q = c .before .before in
     let a = start q .args in
-    room-there _ _ (ap (λ (n : ℕ). roomVerdict n (length (a .out .now))) (sym (q .before .before .recipe-size .ensures)) ∙ sym (q .require-room .ensures) ∙ c .enum-told .given .1)
+    room-enough _ _ (ap (λ (n : ℕ). roomVerdict n (length (a .out .now))) (sym (q .before .before .recipe-size .ensures)) ∙ sym (q .require-room .ensures) ∙ c .enum-told .given .1)
 
 returns-2 : tie.Need-returns-2
+unfolding writeCall
 returns-2 c =
     let q = c .before .before .before in
     let a = start q .args in
-    concluded (a .self) (a .out .now) _ _ (Refused _) (asked q ∙ c .before .room .given .1) refl
+    concluded (writeVerdict (a .self) (length (a .out .now))) (recipeOf (stagesOf (a .self))) (a .out .now) _ _ (Refused _) (asked q ∙ c .before .room .given .1) refl
 
 returns-3 : tie.Need-returns-3
+unfolding writeCall
 returns-3 c =
     let w = c .before .before in
     let q = w .before .before .before .before in
     let a = start q .args in
-    wrote (a .self) (a .out .now) _ _ (q .before .before .recipe-size .ensures) (w .write-stages .ensures) (asked q ∙ w .before .before .enum-told .given .1)
+    wrote (writeVerdict (a .self) (length (a .out .now))) (recipeOf (stagesOf (a .self))) (a .out .now) _ _ (q .before .before .recipe-size .ensures) (w .write-stages .ensures) (asked q ∙ w .before .before .enum-told .given .1)
 
 pub write-recipe-spec : {M : Type 1} → statement M
 write-recipe-spec = tie.close (tie.spec

@@ -1,9 +1,11 @@
--- Laws of runs of words written from a place on. Assumes nothing.
+-- Laws of runs written from a place on. Assumes nothing.
 use mathlib.Core.Path.{_≡_, refl, sym, ap, _∙_}
 use mathlib.Core.List.{List, [], _∷_, _++_, append-assoc}
 use Prim.Native.Nat.{ℕ, suc, _+_, _≤_, _<_}
 use native.Mathlib.Omega.{arith}
 use lib.ListN.{length, getD, take, drop, set, List·getD-append}
+use Rattle.pcm.specs.Frames.{written}
+use native.Mathlib.Nat.{zero-add}
 use lib.Seq.{sets, sets-eq, getD-set-other, getD-drop, length-take-le, drop-at}
 
 module _ {A : Type 0} where
@@ -42,3 +44,8 @@ module _ {A : Type 0} where
 
   pub above-run : (vs l : List A) (k n j : ℕ) (d : A) → n + length vs ≤ j → getD (drop k (sets l (k + n) vs)) j d ≡ getD (drop k l) j d
   above-run vs l k n j d h = getD-drop k (sets l (k + n) vs) j d ∙ after-run vs l (k + n) (k + j) d (omega arith) ∙ sym (getD-drop k l j d)
+
+-- a run of bytes from the front on
+pub front-run : (bytes out : List ℕ) → length bytes ≤ length out → sets out 0 bytes ≡ written bytes out
+unfolding written
+front-run bytes out h = sets-eq bytes out 0 (omega arith) ∙ rw zero-add
