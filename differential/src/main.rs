@@ -1,15 +1,18 @@
-//! The differential run: scripts for the program `replay`, and what the unchanged source says every answer must be.
+//! The differential run: scripts for the program `replay`, and what the unchanged source says every answer must be; then recipes for the
+//! program `notes`.
 //!
-//!     differential REPLAY               compares
-//!     differential REPLAY --long N      with the cases of N seeds
-//!     differential REPLAY --times       says what each family took and which answers were reached
-//!     differential --sample DIR         writes a sample of script and answers as DIR/stdin and DIR/stdout
+//!     differential REPLAY NOTES               compares
+//!     differential REPLAY NOTES --long N      with the cases of N seeds
+//!     differential REPLAY NOTES --times       says what each family took and which answers were reached
+//!     differential --sample DIR               writes a sample of script and answers as DIR/stdin and DIR/stdout
 
 mod clipping;
+mod desk;
 mod differences;
 mod ending;
 mod families;
 mod model;
+mod notes;
 mod protocol;
 mod random;
 mod recipe;
@@ -17,6 +20,7 @@ mod report;
 mod session;
 mod source;
 
+use desk::Desk;
 use random::Random;
 use session::Session;
 use std::path::PathBuf;
@@ -36,7 +40,7 @@ fn grouped(number: u64) -> String {
     out
 }
 
-fn compare(replay: PathBuf, rounds: u64, timed: bool) {
+fn compare(replay: PathBuf, notes: PathBuf, rounds: u64, timed: bool) {
     differences::check();
     let mut session = Session::new(Some(replay));
     for round in 0..rounds {
@@ -53,6 +57,9 @@ fn compare(replay: PathBuf, rounds: u64, timed: bool) {
             println!("{name}, outcome {outcome}: {} samples clipped", grouped(*clipped));
         }
     }
+    let mut desk = Desk::new(notes);
+    desk.run(&mut Random::new(SEED));
+    println!("notes: {} runs, 0 differ", grouped(desk.runs));
     println!("differential: {} answers, {} bytes, 0 differ", grouped(session.tally.answers), grouped(session.tally.bytes));
 }
 
@@ -70,11 +77,13 @@ fn main() {
     let words: Vec<&str> = arguments.iter().map(String::as_str).collect();
     match words[..] {
         ["--sample", folder] => write_sample(folder.into()).expect("the sample cannot be written"),
-        [replay] => compare(replay.into(), 1, false),
-        [replay, "--times"] => compare(replay.into(), 1, true),
-        [replay, "--long", rounds] => compare(replay.into(), rounds.parse().expect("--long takes a number"), false),
+        [replay, notes] => compare(replay.into(), notes.into(), 1, false),
+        [replay, notes, "--times"] => compare(replay.into(), notes.into(), 1, true),
+        [replay, notes, "--long", rounds] => {
+            compare(replay.into(), notes.into(), rounds.parse().expect("--long takes a number"), false);
+        }
         _ => {
-            eprintln!("usage: differential REPLAY [--long N | --times], or differential --sample DIR");
+            eprintln!("usage: differential REPLAY NOTES [--long N | --times], or differential --sample DIR");
             std::process::exit(2);
         }
     }

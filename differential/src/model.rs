@@ -2,6 +2,7 @@
 
 use crate::clipping;
 use crate::ending::{self, End, Resampler};
+use crate::notes::{self, is_note};
 use crate::recipe::{self, Designs};
 use crate::source::{self, ADDRESSES, Address, Block, Buffer, Format, Ran, Sound, Stage, refusal};
 use oracle::elements::{BiquadKind, Coefficients, DcBlock, LinearResampler, MonoToStereo, StereoToMono, mix_i16};
@@ -17,6 +18,8 @@ pub const RECORD_LENGTH: u16 = 7;
 pub const TOO_MANY_STAGES: u16 = 8;
 pub const SETTING_OUT_OF_RANGE: u16 = 9;
 pub const TOO_MANY_FRAMES: u16 = 10;
+pub const TOO_MANY_BYTES: u16 = 10;
+pub const NOTE_TOO_LONG: u16 = 11;
 
 pub const MOST_FRAMES: usize = 8_192;
 const MOST_STAGES: usize = 8;
@@ -30,19 +33,20 @@ pub fn rate_allowed(rate: u32) -> bool {
 /// at odd ones.
 pub struct Chain {
     pub format: Format,
+    /// What the chain writes back.
     pub recipe: Vec<u8>,
     stages: [Vec<Stage>; 2],
     pub counters: [u64; 2],
 }
 
-/// Each kind and the length that its records say.
+/// Each stage's kind and the length that its records say.
 #[rustfmt::skip]
 const RECORD_LENGTHS: [(u16, u16); 6] = [
     (recipe::GAIN, 6), (recipe::MONO_TO_STEREO, 2), (recipe::STEREO_TO_MONO, 2),
     (recipe::RESAMPLE, 10), (recipe::DC_BLOCK, 6), (recipe::BIQUAD, 26),
 ];
 
-/// One record: its kind, its fields, and the bytes after it.
+/// One record: its kind, its fields or a note's bytes, and the bytes after it.
 type Record<'a> = (u16, &'a [u8], &'a [u8]);
 
 fn read_record(recipe: &[u8]) -> Result<Record<'_>, u16> {
@@ -51,11 +55,17 @@ fn read_record(recipe: &[u8]) -> Result<Record<'_>, u16> {
     if length < 2 {
         return Err(SHORT_RECORD);
     }
-    let Some((_, own)) = RECORD_LENGTHS.iter().find(|(known, _)| *known == kind) else { return Err(UNKNOWN_STAGE) };
-    if length != *own {
-        return Err(RECORD_LENGTH);
-    }
     let end = 2 + usize::from(length);
+    if is_note(kind) {
+        if end > 4 + notes::LONGEST {
+            return Err(NOTE_TOO_LONG);
+        }
+    } else {
+        let Some((_, own)) = RECORD_LENGTHS.iter().find(|(known, _)| *known == kind) else { return Err(UNKNOWN_STAGE) };
+        if length != *own {
+            return Err(RECORD_LENGTH);
+        }
+    }
     let Some(fields) = recipe.get(4..end) else { return Err(SHORT_RECORD) };
     Ok((kind, fields, &recipe[end..]))
 }
@@ -94,19 +104,24 @@ pub fn open(format: Format, bytes: &[u8], designs: &Designs) -> Result<Chain, u1
     if !rate_allowed(format.rate) || !(1..=2).contains(&format.channels) {
         return Err(INVALID_FORMAT);
     }
-    let (mut stages, mut reaching, mut rest) = (vec![], format, bytes);
+    let (mut stages, mut reaching, mut rest, mut kept) = (vec![], format, bytes, vec![]);
     while !rest.is_empty() {
         let (kind, fields, after) = read_record(rest)?;
+        let record = &rest[..rest.len() - after.len()];
+        rest = after;
+        if is_note(kind) {
+            continue;
+        }
         if stages.len() == MOST_STAGES {
             return Err(TOO_MANY_STAGES);
         }
         let mut stage = stage(kind, fields, designs)?;
         reaching = suited(&mut stage, fields, reaching)?;
         stages.push(stage);
-        rest = after;
+        kept.extend_from_slice(record);
     }
     let unread = stages.iter().cloned().map(Stage::unread).collect();
-    Ok(Chain { format, recipe: bytes.to_vec(), stages: [stages, unread], counters: [0; 2] })
+    Ok(Chain { format, recipe: kept, stages: [stages, unread], counters: [0; 2] })
 }
 
 /// What a block or a finish answers.

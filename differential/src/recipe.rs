@@ -22,6 +22,10 @@ pub fn record(kind: u16, fields: &[u32]) -> Vec<u8> {
     out
 }
 
+pub fn note(kind: u16, text: &[u8]) -> Vec<u8> {
+    [&(2 + text.len() as u16).to_le_bytes(), &kind.to_le_bytes(), text].concat()
+}
+
 pub fn gain(q15: i32) -> Vec<u8> {
     record(GAIN, &[q15 as u32])
 }

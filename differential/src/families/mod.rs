@@ -6,6 +6,7 @@ mod cuttings;
 mod divisors;
 mod ends;
 mod finishes;
+pub mod notes;
 mod numbers;
 mod recipes;
 mod room;
@@ -22,11 +23,13 @@ use crate::source::Block;
 type Family = (&'static str, fn(&mut Session, &mut Random));
 
 /// The same cases whatever the seed.
-const FIXED: [Family; 14] = [
+const FIXED: [Family; 16] = [
     ("short recipes", recipes::short),
     ("record lengths", recipes::lengths),
     ("limits of settings", recipes::limits),
     ("nine records", recipes::nine),
+    ("lengths of notes", notes::lengths),
+    ("notes beside every refusal", notes::orders),
     ("cuttings of short streams", cuttings::short),
     ("cuttings of finished streams", cuttings::finished),
     ("finishes after every length", finishes::lengths),
@@ -40,7 +43,7 @@ const FIXED: [Family; 14] = [
 ];
 
 /// Other cases with every seed.
-const SEEDED: [Family; 23] = [
+const SEEDED: [Family; 25] = [
     ("stages alone", chains::lone),
     ("chains", chains::any),
     ("chains, long blocks", chains::long_blocks),
@@ -50,6 +53,8 @@ const SEEDED: [Family; 23] = [
     ("finishes of chains", finishes::of_chains),
     ("scratch_bytes", room::scratch),
     ("recipes cut and damaged", recipes::damaged),
+    ("chains with notes", notes::chains),
+    ("recipes with notes, cut and damaged", notes::damaged),
     ("cuttings of long streams", cuttings::long),
     ("all samples through filters", samples::filters),
     ("mix_i16", numbers::mix),

@@ -2,7 +2,7 @@
 
 use super::{
     Random, Session, ample_block, ample_finish, ample_half, any_frames, block_over, chains, clipping, divisors, ends, finish_over,
-    finishes, numbers, open_any, sound_of,
+    finishes, notes, numbers, open_any, sound_of,
 };
 use crate::protocol::{BLOCK, COMMANDS, END_MARK, FINISH, MIX, ROUND_SAT16, SAT16};
 use crate::recipe;
@@ -19,6 +19,7 @@ pub fn gather(session: &mut Session, random: &mut Random) {
     any_chains(session, random);
     finishes::few(session, random);
     divisors::few(session, random);
+    notes::few(session, random);
     clipping::few(session, random);
     damaged(session, random);
     numbers::few(session, random);
@@ -116,7 +117,7 @@ fn check(session: &Session, sounded: &BTreeSet<u8>) {
     let reached = &session.reached;
     let has = |wanted: &dyn Fn(&(u8, u16, u8)) -> bool| reached.keys().any(wanted);
     COMMANDS.iter().for_each(|command| assert!(has(&|seen| seen.0 == command.code), "{} is not in the sample", command.name));
-    (1..=10).for_each(|number| assert!(has(&|seen| seen.1 == number), "refusal {number} is not in the sample"));
+    (1..=11).for_each(|number| assert!(has(&|seen| seen.1 == number), "refusal {number} is not in the sample"));
     for (command, outcome) in [BLOCK, FINISH].into_iter().flat_map(|command| [0, 1, 2].map(|outcome| (command, outcome))) {
         assert!(has(&|seen| seen.0 == command && seen.2 == outcome), "outcome {outcome} of command {command} is not in the sample");
     }
