@@ -7,7 +7,8 @@
  *
  * number is 0 or a refusal's: 1 rate, channels or chain not allowed, too few words, 2 format does not suit, 3 too little room
  * (needed says how much), 4 not whole frames, 5 record short, 6 kind unknown, 7 record length wrong, 8 more than eight stages,
- * 9 setting out of range, 10 more than 8,192 frames. A value that there is not is 0. A refusal alters no word and no byte. */
+ * 9 setting out of range, 10 more than 8,192 frames, 11 a note of more than 64 bytes. A value that there is not is 0. A refusal
+ * alters no word and no byte. */
 #ifndef MUZGLEUR_H
 #define MUZGLEUR_H
 
@@ -68,7 +69,7 @@ typedef struct {
     size_t needed, len;
 } muzgleur_write_result;
 
-/* The chain of a recipe, to the words. */
+/* The chain of a recipe, to the words. Notes in it, records of kinds 0x8000 and above, are passed over. */
 uint16_t muzgleur_open(uint32_t rate, uint16_t channels, const uint8_t *recipe, size_t recipe_len, uint32_t *chain,
                        size_t chain_words);
 
@@ -97,7 +98,7 @@ muzgleur_format muzgleur_output_format(const uint32_t *chain, size_t chain_words
 /* Twice the bytes of a half: two such halves are enough for any block of size bytes, in any state. */
 muzgleur_scratch_result muzgleur_scratch_bytes(const uint32_t *chain, size_t chain_words, size_t size);
 
-/* The recipe that the chain was opened from, at the front of out. */
+/* The recipe that the chain was opened from, without its notes, at the front of out. */
 muzgleur_write_result muzgleur_write_recipe(const uint32_t *chain, size_t chain_words, uint8_t *out, size_t out_len);
 
 #ifdef __cplusplus
