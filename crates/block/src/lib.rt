@@ -2,9 +2,12 @@
 ghost use mathlib.Core.Path.{_≡_};
 ghost use Rattle.pcm.specs.Refusals.{valued};
 ghost use Rattle.pcm.specs.declared.Verdict.the-variants.{Accepted};
+ghost use Rattle.pipeline.specs.WritingBack.{stagesOf};
+ghost use Rattle.questions.specs.Walk.{walked, Walked};
 ghost use Rattle.answers.specs.Answers.{answerTold, scratchTold};
 ghost use Rattle.block.specs.BlockCall.{blockCall, sizeAsked, scratchFigure, scratchBytes};
 ghost use Rattle.block.specs.Told.{blockTold};
+ghost use Rattle.block.specs.laws.Asking.{Asks};
 use answers::Answer;
 use answers::Scratch;
 use pcm::Error;
@@ -12,6 +15,7 @@ use pcm::PcmFormat;
 use pcm::Verdict;
 use pipeline::Pipeline;
 use questions::Question;
+use questions::Walk;
 use stage::Stage;
 
 pub struct Outcome {
@@ -86,6 +90,22 @@ pub fn process(
     Outcome { chain, answer }
 }
 
+// What the walk that asks finds along the stages, from the walk before the first of them. `process` alone walks by itself.
+pub fn walked(chain: Pipeline, question: Question, shorter: usize, start: Walk) -> Walk
+    requires { ⌜ Asks question shorter (start .format .rate) (chain .stages) (chain .count) start start 0 ⌝ }
+    ensures { λ r. ⌜ Walked r (walked question shorter start (stagesOf chain)) ⌝ }
+{
+    let count = chain.count;
+    let mut walk = start;
+    let mut i: usize = 0;
+    while i < count {
+        let s = chain.stages[i];
+        walk = questions::asked(walk, s, question, shorter);
+        i += 1;
+    }
+    walk
+}
+
 // Twice the bytes of a half: two such halves are enough for any block of `size` bytes, in any state. The block itself counts, as for
 // a chain of no stages.
 pub fn scratch_bytes(chain: Pipeline, size: usize) -> Scratch
@@ -93,17 +113,11 @@ pub fn scratch_bytes(chain: Pipeline, size: usize) -> Scratch
     ensures told { λ r. ⌜ scratchTold r ≡ valued (sizeAsked chain size Accepted) (scratchFigure chain size) ⌝ }
 {
     let own = chain.format;
-    let count = chain.count;
-    if !questions::head_legal(own, count) {
+    if !questions::head_legal(own, chain.count) {
         return Scratch::Refused(Error::InvalidFormat);
     }
-    let mut walk = questions::begun(own, 0, size, size);
-    let mut i: usize = 0;
-    while i < count {
-        let s = chain.stages[i];
-        walk = questions::asked(walk, s, Question::AnyState, size);
-        i += 1;
-    }
+    let start = questions::begun(own, 0, size, size);
+    let walk = walked(chain, Question::AnyState, size, start);
     let asked = questions::sized(own, size, walk);
     match asked {
         Verdict::Refused(e) => Scratch::Refused(e),

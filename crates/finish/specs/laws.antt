@@ -1,2 +1,3 @@
+pub mod Beforehand
 pub mod ChainEnd
 pub mod Stepping

@@ -53,13 +53,8 @@ fn finish_question(chain: Pipeline, shorter: usize) -> Verdict
     if !questions::head_legal(own, count) {
         return Verdict::Refused(Error::InvalidFormat);
     }
-    let mut walk = questions::begun(own, count, 0, shorter);
-    let mut i: usize = 0;
-    while i < count {
-        let s = chain.stages[i];
-        walk = questions::asked(walk, s, Question::Finish, shorter);
-        i += 1;
-    }
+    let start = questions::begun(own, count, 0, shorter);
+    let walk = block::walked(chain, Question::Finish, shorter, start);
     verdict(walk)
 }
 

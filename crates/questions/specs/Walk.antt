@@ -1,5 +1,6 @@
 -- The questions of a block and of `scratch_bytes` (document 01, 'The questions') and of a finish (document 02, Q-1), as one walk along the
 -- stages finds them. Definitions only.
+use mathlib.Core.Path.{_≡_}
 use mathlib.Core.Bool.{Bool, cond, _&&_, true, false}
 use Prim.Native.Nat.{ℕ, _*_, _%_, _/_, _≤_, _<_}
 use lib.Dec.{eqb, leb, ltb}
@@ -102,6 +103,12 @@ begun f count size shorter = record {
 unfoldable pub walked : Question → ℕ → Walk → List Stage → Walk
 walked q shorter w [] = w
 walked q shorter w (s ∷ rest) = walked q shorter (stepped q shorter w s) rest
+
+-- a walk that asked along the stages, and the bounds of its figures
+pub record Walked (r found : Walk) : Type 0 where
+  pub is : r ≡ found
+  pub largest : r .largest ≤ 3688000000000000000
+  pub short : r .short ≤ 3688000000000000000
 
 -- ---- what the walk answers
 -- Is every stage legal? else 1. Then the size

@@ -6,7 +6,6 @@ use Prim.Native.Nat.{ℕ, _+_, _*_, _≤_, _<_}
 use lib.ListN.{length}
 use Rattle.answers.specs.declared.Answer.{Answer}
 use Rattle.answers.specs.declared.Answer.the-variants as answer
-use Rattle.questions.specs.declared.Walk.{Walk}
 use Rattle.questions.specs.Walk.{headLegal}
 use Rattle.stage_words.specs.Layout.{word}
 use Rattle.chain_words.specs.Layout.{formatOf, stands}
@@ -29,9 +28,3 @@ abbrev pub WordsAfter : Answer → List ℕ → List ℕ → Type 0
 WordsAfter (answer.Output f timestamp half len clipped) w w′ = SettingsStay w w′
 WordsAfter (answer.NothingYet clipped) w w′ = SettingsStay w w′
 WordsAfter (answer.Refused e) w w′ = w′ ≡ w
-
--- a walk that asked along the stages, and the bounds of its figures
-pub record Walked (r found : Walk) : Type 0 where
-  pub is : r ≡ found
-  pub largest : r .largest ≤ 3688000000000000000
-  pub short : r .short ≤ 3688000000000000000

@@ -62,6 +62,13 @@ asks-first q shorter size n count f stages w h len e =
       so-far = ap (walked q shorter w) (sym (drop-zero (take count stages)));
     }
 
+-- the same, with the rate that the walk begins with
+pub asks-begin : (q : Question) (shorter size n count : ℕ) (f : PcmFormat) (stages : List Stage) (w : Walk) → headLegal f count ≡ true → length stages ≡ 8 → w ≡ begun f n size shorter
+    → Asks q shorter (w .format .rate) stages count w w 0
+unfolding begun
+asks-begin q shorter size n count f stages w h len e =
+    subst (λ (r : ℕ). Asks q shorter r stages count w w 0) (sym (ap (λ (x : Walk). x .format .rate) e)) (asks-first q shorter size n count f stages w h len e)
+
 module _ (q : Question) (shorter first : ℕ) (stages : List Stage) (count : ℕ) (start w : Walk) (i : ℕ) (p : Asks q shorter first stages count start w i) where
   pub asks-fits : i < count → (w .frames ≤ 2400000000000) × ((0 < w .format .channels) × (w .format .channels ≤ 2))
   asks-fits h = (few first (p .rate .0) (p .rate .1) w i (omega (arith, p .few)) (p .within), p .within .channels)

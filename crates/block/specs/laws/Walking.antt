@@ -168,11 +168,11 @@ module _ (shorter short room : ℕ) where
   room-not-held z h = rw (eq-eqb short 0 z, lt-leb room shorter h)
 
 module _ (w : Walk) (s : Stage) where
-  pub due-none : w .frames ≡ 0 → dueOf Block s (w .frames) ≡ record { wanted = 0; delivered = 0 }
+  due-none : w .frames ≡ 0 → dueOf Block s (w .frames) ≡ record { wanted = 0; delivered = 0 }
   unfolding dueOf
   due-none z = rw (eq-eqb (w .frames) 0 z)
 
-  pub due-some : (w .frames ≡ 0 → ⊥) → dueOf Block s (w .frames) ≡ record { wanted = framesWanted (s .kind) (w .frames); delivered = framesOut (s .kind) (s .memory) (w .frames) }
+  due-some : (w .frames ≡ 0 → ⊥) → dueOf Block s (w .frames) ≡ record { wanted = framesWanted (s .kind) (w .frames); delivered = framesOut (s .kind) (s .memory) (w .frames) }
   unfolding dueOf
   due-some z = rw (ne-eqb (w .frames) 0 z)
 
@@ -322,12 +322,12 @@ after-same Accepted a b h = h refl
 after-same (Refused e) a b h = refl
 
 -- what a walk begins with, of any number of stages and any halves
-record Begins (f : PcmFormat) (size : ℕ) (w : Walk) : Type 0 where
-  legal : w .legal ≡ true
-  format : w .format ≡ f
-  frames : w .frames ≡ blockFrames f size
+pub record Begins (f : PcmFormat) (size : ℕ) (w : Walk) : Type 0 where
+  pub legal : w .legal ≡ true
+  pub format : w .format ≡ f
+  pub frames : w .frames ≡ blockFrames f size
 
-begins : (f : PcmFormat) (count size shorter : ℕ) → Begins f size (begun f count size shorter)
+pub begins : (f : PcmFormat) (count size shorter : ℕ) → Begins f size (begun f count size shorter)
 unfolding begun
 begins f count size shorter = record { legal = refl; format = refl; frames = refl }
 

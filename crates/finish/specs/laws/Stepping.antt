@@ -125,7 +125,7 @@ module _ (f : PcmFormat) (count shorter : ℕ) where
   unfolding begun
   start-format = refl
 
-  start-frames : begun f count 0 shorter .frames ≡ 0
+  pub start-frames : begun f count 0 shorter .frames ≡ 0
   unfolding begun
   start-frames = none-arrive
 

@@ -8,11 +8,11 @@ use native.Mathlib.Omega.{arith}
 use Rattle.pcm.specs.declared.Verdict.{Verdict}
 use Rattle.questions.specs.Walk.{headLegal}
 use Rattle.block.specs.BlockCall.{scratchAnswer, scratchBytes}
-use Rattle.block.specs.laws.Asking.{Head, head-parts}
+use Rattle.block.specs.laws.Asking.{Head, head-parts, asks-begin}
 use Rattle.chain_words.specs.Layout.{chainOfWords}
 use Rattle.chain_words.specs.laws.Chains.{stands-long}
 use Rattle.word_block.specs.Words.{legalHead}
-use Rattle.word_block.specs.laws.Heads.{asks-begin, head-stands, head-at}
+use Rattle.word_block.specs.laws.Heads.{eight, head-stands, head-at}
 use Rattle.word_block.proofs.Verdicts.{scratch-refused-at, scratch-at}
 use Rattle.word_block.proofs.scratch_bytes.Statement.{statement}
 use Rattle.word_block.proofs.scratch_bytes.Tie as tie
@@ -43,7 +43,7 @@ scratch-bytes-spec = tie.close (tie.spec
     (λ c κs. stands-long _ (head-stands _ (headed c)))
     (λ c κs. stands-long _ (head-stands _ (headed (c .before))))
     (λ c κs. parts c .channels)
-    (λ c κs. (stands-long _ (head-stands _ (headed (c .before .before .before))), asks-begin _ _ _ _ _ _ _ _ (head (c .before)) (c .begun .ensures)))
+    (λ c κs. (stands-long _ (head-stands _ (headed (c .before .before .before))), asks-begin _ _ _ _ _ _ _ _ (head (c .before)) (eight _) (c .begun .ensures)))
     (λ c κs. parts (c .before .before) .channels .0)
     (λ c. search needs)
     (λ c. record { fits = omega (arith, c .before .before .before .before .walked .ensures .largest) })

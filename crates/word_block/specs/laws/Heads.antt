@@ -1,5 +1,5 @@
--- The head that words state is the chain's, and the walk that asks can begin there. Assumes nothing.
-use mathlib.Core.Path.{_≡_, refl, sym, ap, ap₂, _∙_, subst}
+-- The head that words state is the chain's. Assumes nothing.
+use mathlib.Core.Path.{_≡_, refl, sym, ap₂, _∙_}
 use mathlib.Core.Bool.{Bool, true, false, cond, _&&_}
 use mathlib.Core.List.{List}
 use Prim.Native.Nat.{ℕ}
@@ -9,11 +9,8 @@ use Rattle.pcm.specs.declared.PcmFormat.{PcmFormat}
 use Rattle.pcm.specs.Formats.{formatAllowed}
 use Rattle.pcm.specs.laws.Tests.{both}
 use Rattle.pipeline.specs.WritingBack.{stagesOf}
-use Rattle.questions.specs.declared.Question.{Question}
-use Rattle.questions.specs.declared.Walk.{Walk}
-use Rattle.questions.specs.Walk.{headLegal, begun}
+use Rattle.questions.specs.Walk.{headLegal}
 use Rattle.block.specs.BlockCall.{legal, suited}
-use Rattle.block.specs.laws.Asking.{Asks, asks-first}
 use Rattle.stage_words.specs.Layout.{word}
 use Rattle.chain_words.specs.Layout.{formatOf, chainAt, stands, noChain, chainOfWords}
 use Rattle.word_block.specs.Words.{legalHead}
@@ -22,13 +19,6 @@ use Rattle.word_block.specs.Words.{legalHead}
 pub eight : (w : List ℕ) → length (chainAt w .stages) ≡ 8
 unfolding chainAt
 eight w = refl
-
-pub asks-begin : (q : Question) (shorter size n count : ℕ) (own : PcmFormat) (w : List ℕ) (start : Walk) → headLegal own count ≡ true → start ≡ begun own n size shorter
-    → Asks q shorter (start .format .rate) (chainAt w .stages) count start start 0
-unfolding begun
-asks-begin q shorter size n count own w start h e =
-    subst (λ (r : ℕ). Asks q shorter r (chainAt w .stages) count start start 0) (sym (ap (λ (x : Walk). x .format .rate) e))
-    (asks-first q shorter size n count own (chainAt w .stages) start h (eight w) e)
 
 -- ---- a head within its limits is the chain's
 module _ (w : List ℕ) (h : legalHead w ≡ true) where

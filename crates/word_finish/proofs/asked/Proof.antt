@@ -4,10 +4,10 @@ use borrow.Author.Tests.{not-true, not-false}
 use mathlib.Core.Path.{_≡_, sym, _∙_}
 use mathlib.Core.Bool.{true}
 use Rattle.questions.specs.Walk.{headLegal}
-use Rattle.block.specs.laws.Asking.{Head, head-parts}
+use Rattle.block.specs.laws.Asking.{Head, head-parts, asks-begin}
 use Rattle.chain_words.specs.laws.Chains.{stands-long}
 use Rattle.word_block.specs.Words.{legalHead}
-use Rattle.word_block.specs.laws.Heads.{asks-begin, head-stands, head-at}
+use Rattle.word_block.specs.laws.Heads.{eight, head-stands, head-at}
 use Rattle.word_finish.proofs.Finishing.{refused-at, verdict-at}
 use Rattle.word_finish.proofs.asked.Statement.{statement}
 use Rattle.word_finish.proofs.asked.Tie as tie
@@ -30,7 +30,7 @@ asked-spec = tie.close (tie.spec
     (λ c κs. stands-long _ (head-stands _ (headed c)))
     (λ c κs. stands-long _ (head-stands _ (headed (c .before))))
     (λ c κs. parts c .channels)
-    (λ c κs. (stands-long _ (head-stands _ (headed (c .before .before .before))), asks-begin _ _ _ _ _ _ _ _ (head (c .before)) (c .begun .ensures)))
+    (λ c κs. (stands-long _ (head-stands _ (headed (c .before .before .before))), asks-begin _ _ _ _ _ _ _ _ (head (c .before)) (eight _) (c .begun .ensures)))
     (λ c κs. c .walked .ensures .short)
     (λ c. let w = c .before in let b = w .before in let n = b .before in let f = n .before in
     verdict-at _ (headed (f .before)) _ _ (n .count-of .ensures) (f .format-of .ensures) _ _ _ _ (b .begun .ensures) (w .walked .ensures .is) (c .verdict .ensures)))
