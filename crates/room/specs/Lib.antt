@@ -1,0 +1,5 @@
+pub mod Asked
+pub mod Beforehand
+pub mod Room
+pub mod Theorems
+pub mod laws
