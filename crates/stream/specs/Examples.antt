@@ -4,7 +4,7 @@ use mathlib.Core.List.{List, [], _∷_, _++_, map}
 use Prim.Native.Nat.{ℕ}
 use lib.IntN.{pos}
 use Rattle.pcm.specs.declared.PcmFormat.{PcmFormat}
-use Rattle.pcm.specs.declared.Error.the-variants.{BufferTooSmall}
+use Rattle.pcm.specs.declared.Error.the-variants.{BufferTooSmall, InvalidGeometry, TooLong}
 use Rattle.pcm.specs.declared.Verdict.the-variants.{Accepted}
 use Rattle.pcm.specs.Formats.{rateAllowed, channelsAllowed, formatAllowed}
 use Rattle.pcm.specs.Samples.{held, outside, sampleOf, lowOf, highOf}
@@ -31,6 +31,9 @@ use Rattle.ending.specs.ResamplerEnd.{onLast, wholeLast, heldLast, resamplerEnd
 use Rattle.ending.specs.StageEnd.{stageEnd, framesAtEnd}
 use Rattle.finish.specs.FinishCall as finishing
 use Rattle.finish.specs.FinishCall.{chainEnd, roomAtEnd, endVerdict, finishVerdict, endedHalves, finishCall}
+use Rattle.questions.specs.Walk.{blockFrames, sizeVerdict, larger, dueOf, firstShort, roomOf, further, stepped, begun, walked}
+use Rattle.room.specs.declared.Room.the-variants as room
+use Rattle.room.specs.Room.{found, blockRoom, finishRoom}
 use Rattle.stream.specs.Calls.{Call, block, reset, finish, callOutput, finishOutput}
 use Rattle.stream.specs.Opened.{kindsIn}
 use Rattle.stream.specs.PlainChain.{plainStage, through, plainOut}
@@ -98,6 +101,20 @@ unfolding blockCall blockVerdict legal suited stageSuits ratesSuit ratesAllowed 
 end-f = (
   ap (λ (c : Pipeline). finishOutput (finishCall (waiting c) lentHalf lentHalf)) chain-f,
   ap (λ (c : Pipeline). finishCall (waiting c) (7 ∷ []) lentHalf .answer) chain-f,
+)
+
+-- ---- the room known beforehand (document 02, Q-5): three frames bring four and want 14 bytes in each half; one brings nothing yet and wants 6;
+-- of none and of 8,193 nothing is told; then the finish brings one frame and wants 2
+room-f : (blockRoom opened 3 ≡ room.Known 4 14) × (blockRoom opened 1 ≡ room.Known 0 6) × (blockRoom opened 0 ≡ room.Refused InvalidGeometry) × (blockRoom opened 8193 ≡ room.Refused TooLong)
+    × (finishRoom opened ≡ room.Known 0 0) × (finishRoom (waiting opened) ≡ room.Known 1 2)
+unfolding blockRoom finishRoom found walked stepped further begun blockFrames sizeVerdict dueOf roomOf firstShort larger endCount endFrameCount framesAtEnd blockCall blockVerdict legal suited stageSuits ratesSuit ratesAllowed rateAllowed channelsAllowed formatAllowed roomsVerdict roomWanted framesWanted framesOut resampledCount carriedCount roomFrames accepted passed written bytesOf framesOf sampleOf lowOf highOf formatLeaving stageOut stageNext stageClipped resampled stateAfter carriedOutputs outputsFrom carriedState among firstAt outputAt blend interpolated reduced gcd largestDivisor chainOf
+room-f = (
+  ap (λ (c : Pipeline). blockRoom c 3) chain-f,
+  ap (λ (c : Pipeline). blockRoom c 1) chain-f,
+  ap (λ (c : Pipeline). blockRoom c 0) chain-f,
+  ap (λ (c : Pipeline). blockRoom c 8193) chain-f,
+  ap finishRoom chain-f,
+  ap (λ (c : Pipeline). finishRoom (waiting c)) chain-f,
 )
 
 -- ---- `whole-stream` at work

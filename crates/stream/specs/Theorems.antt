@@ -2,7 +2,7 @@
 use mathlib.Core.Path.{_≡_, refl, sym, ap, _∙_}
 use mathlib.Core.Bool.{Bool, true, false}
 use mathlib.Core.List.{List, [], _∷_, map}
-use Prim.Native.Nat.{ℕ, _*_, _≤_}
+use Prim.Native.Nat.{ℕ, _*_, _≤_, _<_}
 use native.Mathlib.Omega.{arith}
 use borrow.Author.Tests.{le-leb}
 use lib.ListN.{length, drop}
@@ -42,6 +42,9 @@ use Rattle.block.specs.laws.Chain.{chain-next-nil}
 use Rattle.answers.specs.declared.FinishAnswer.the-variants as finish
 use Rattle.finish.specs.FinishCall.{finishCall}
 use Rattle.finish.specs.Theorems.{nothing-due}
+use Rattle.room.specs.Beforehand.{BlockBeforehand, FinishBeforehand}
+use Rattle.room.specs.Theorems.{block-beforehand, finish-beforehand}
+use Rattle.stream.specs.laws.Sounding.{sounding}
 use Rattle.stream.specs.laws.AfterCalls.{state-plain, legal-since, stands-within, after-all}
 use Rattle.stream.specs.laws.Afterwards.{kinds-of-state}
 use Rattle.stream.specs.Counters.{heldCount, acceptedBlocks, nothingFrom}
@@ -120,6 +123,14 @@ module _ (f : PcmFormat) (recipe : List ℕ) (h : openCall f recipe .verdict ≡
   nothing-to-finish e a b =
       let s : stagesOf c ≡ stagesOf o = next-call .moved .stages ∙ ap (chainNext (stagesOf o)) e ∙ chain-next-nil (stagesOf o) in
       nothing-due c still-legal (s ∙ opened-chain f recipe h .silent ∙ ap (map stageClear) (sym s)) a b
+
+  -- the room known beforehand: `block_room` refuses no count of 1 to 8,192 frames, and what it answers is what the next block then does
+  pub block-still-beforehand : (n : ℕ) → 0 < n → n ≤ 8192 → BlockBeforehand c n
+  block-still-beforehand = block-beforehand c (sounding o (opened-chain f recipe h) next-call) still-legal
+
+  -- `finish_room` refuses nothing, and what it answers is what the next finish then does
+  pub finish-still-beforehand : FinishBeforehand c
+  finish-still-beforehand = finish-beforehand c (sounding o (opened-chain f recipe h) next-call) still-legal
 
 -- `blocks` grows with each accepted block; reset and finish clear sound state, not counters
 pub blocks-counted : (f : PcmFormat) (recipe : List ℕ) → openCall f recipe .verdict ≡ Accepted → (calls : List Call) → All Lent calls

@@ -11,4 +11,5 @@ pub mod PlainClipped
 pub mod PlainEnd
 pub mod PlainRoom
 pub mod Resamplers
+pub mod Sounding
 pub mod WholeStream
