@@ -1,6 +1,6 @@
 /* A chain for 48,000 Hz mono: resample to 16,000 Hz, DC block at 20 Hz, low-pass at 3,000 Hz (q 0.707), gain 1.5.
- * Runs blocks of a made-up sound through it, finishes the stream and prints the frames that come out and how many samples were
- * clipped; the output goes to the file named by the first argument, if there is one. */
+ * Runs blocks of a made-up sound through it, in halves cut to the size that each call will want, finishes the stream and prints the
+ * frames that come out and how many samples were clipped; the output goes to the file named by the first argument, if there is one. */
 #include "muzgleur.h"
 
 #include <stdbool.h>
@@ -44,6 +44,12 @@ static void show(uint8_t outcome, uint16_t number, size_t needed, uint8_t half, 
     }
 }
 
+/* How many bytes of each half to lend: as many as the next call wants, or all, whose refusal then says what is wanted. */
+static size_t cut_to_size(muzgleur_room_result room) {
+    printf("%3zu will come, ", room.frames);
+    return room.half <= sizeof a ? room.half : sizeof a;
+}
+
 /* Blocks cut anyhow, 1,921 frames in all: an output falls on the last of them, which the finish delivers. */
 static void run_stream(FILE *out) {
     static const size_t frames[] = {480, 480, 1, 479, 1, 1, 479};
@@ -51,14 +57,16 @@ static void run_stream(FILE *out) {
     size_t clipped = 0;
     for (size_t i = 0; i < sizeof frames / sizeof *frames; i++) {
         made_up(sound, frames[i], at);
-        muzgleur_block_result done = muzgleur_block(chain, WORDS, 48000, 1, at, sound, 2 * frames[i], a, sizeof a, b, sizeof b);
+        printf("%3zu frames in, ", frames[i]);
+        size_t half = cut_to_size(muzgleur_block_room(chain, WORDS, frames[i]));
+        muzgleur_block_result done = muzgleur_block(chain, WORDS, 48000, 1, at, sound, 2 * frames[i], a, half, b, half);
         at += frames[i];
         clipped += done.clipped;
-        printf("%3zu frames in, ", frames[i]);
         show(done.outcome, done.number, done.needed, done.half, done.len, out);
     }
-    muzgleur_finish_result last = muzgleur_finish(chain, WORDS, a, sizeof a, b, sizeof b);
     printf("finish, ");
+    size_t half = cut_to_size(muzgleur_finish_room(chain, WORDS));
+    muzgleur_finish_result last = muzgleur_finish(chain, WORDS, a, half, b, half);
     show(last.outcome, last.number, last.needed, last.half, last.len, out);
     clipped += last.clipped;
     printf("%zu samples clipped\n", clipped);
@@ -68,8 +76,11 @@ static void run_stream(FILE *out) {
 static bool show_refusals(void) {
     uint32_t before[WORDS];
     memcpy(before, chain, sizeof chain);
-    muzgleur_block_result tight = muzgleur_block(chain, WORDS, 48000, 1, 0, sound, MOST_BYTES, a, 100, b, sizeof b);
-    printf("a half of 100 bytes: refused %u, needed %zu\n", tight.number, tight.needed);
+    size_t half = muzgleur_block_room(chain, WORDS, MOST_FRAMES).half;
+    muzgleur_block_result tight = muzgleur_block(chain, WORDS, 48000, 1, 0, sound, MOST_BYTES, a, half - 1, b, half - 1);
+    printf("halves of %zu bytes: refused %u, needed %zu\n", half - 1, tight.number, tight.needed);
+    printf("the room of no frames: refused %u\n", muzgleur_block_room(chain, WORDS, 0).number);
+    printf("the room of 8,193 frames: refused %u\n", muzgleur_block_room(chain, WORDS, 8193).number);
     muzgleur_block_result odd = muzgleur_block(chain, WORDS, 48000, 1, 0, sound, 3, a, sizeof a, b, sizeof b);
     printf("a block of 3 bytes: refused %u\n", odd.number);
     muzgleur_block_result few = muzgleur_block(chain, WORDS - 1, 48000, 1, 0, sound, MOST_BYTES, a, sizeof a, b, sizeof b);

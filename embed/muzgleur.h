@@ -66,6 +66,12 @@ typedef struct {
 
 typedef struct {
     uint16_t number;
+    size_t frames; /* that leave the last stage; 0 where it would be NOTHING_YET */
+    size_t half;   /* bytes of each of two equal halves */
+} muzgleur_room_result;
+
+typedef struct {
+    uint16_t number;
     size_t needed, len;
 } muzgleur_write_result;
 
@@ -81,8 +87,8 @@ muzgleur_block_result muzgleur_block(uint32_t *chain, size_t chain_words, uint32
 /* The end of the stream. A resampler delivers the output that falls exactly on its newest frame, if there is one; that frame
  * runs on through the later stages, and they end in turn. SOUND: len bytes at the front of the half named, with no timestamp;
  * NOTHING_YET: the last stage delivered nothing. The sound memory is then as after muzgleur_open, so that the next block begins
- * a new stream; the counters do not move. One frame may become many, so halves by muzgleur_scratch_bytes need not suffice here.
- * needed counts both halves together and is that of the first stage short. */
+ * a new stream; the counters do not move. One frame may become many, so halves by muzgleur_scratch_bytes need not suffice here:
+ * muzgleur_finish_room says what will. needed counts both halves together and is that of the first stage short. */
 muzgleur_finish_result muzgleur_finish(uint32_t *chain, size_t chain_words, uint8_t *a, size_t a_len, uint8_t *b,
                                        size_t b_len);
 
@@ -97,6 +103,14 @@ muzgleur_format muzgleur_output_format(const uint32_t *chain, size_t chain_words
 
 /* Twice the bytes of a half: two such halves are enough for any block of size bytes, in any state. */
 muzgleur_scratch_result muzgleur_scratch_bytes(const uint32_t *chain, size_t chain_words, size_t size);
+
+/* What the next block, of so many frames in the chain's format, will bring, whatever its bytes, and the smallest two equal
+ * halves that it is accepted with; longer or unequal ones of at least that size do as well, and with one byte less in each it is
+ * refused with 3, needed being twice the figure. 0 frames are 4, more than 8,192 are 10. The figure may pass 2^32. */
+muzgleur_room_result muzgleur_block_room(const uint32_t *chain, size_t chain_words, size_t frames);
+
+/* The same of a finish. Where nothing is due both are 0, and halves of no bytes do. */
+muzgleur_room_result muzgleur_finish_room(const uint32_t *chain, size_t chain_words);
 
 /* The recipe that the chain was opened from, without its notes, at the front of out. */
 muzgleur_write_result muzgleur_write_recipe(const uint32_t *chain, size_t chain_words, uint8_t *out, size_t out_len);

@@ -7,6 +7,7 @@ ghost use Rattle.block.specs.BlockCall.{blockCall, scratchBytes};
 ghost use Rattle.chain_words.specs.Layout.{stands, chainOfWords};
 ghost use Rattle.word_block.specs.Words.{SettingsStay};
 ghost use Rattle.finish.specs.FinishCall.{finishCall};
+ghost use Rattle.room.specs.Room.{blockRoom, finishRoom, roomTold};
 ghost use Rattle.word_finish.specs.Words.{resetOutcome, finishOutcome, finishWords};
 ghost use Rattle.muzgleur.specs.Results.{openOutcome, blockOutcome, counterResult, formatResult, scratchResult};
 use answers::FinishTold;
@@ -15,6 +16,7 @@ use pcm::PcmFormat;
 use pcm::Verdict;
 use pipeline::Pipeline;
 use pipeline::WriteTold;
+use room::RoomTold;
 
 // In each, `number` is 0 or the refusal's, and a value that there is not is 0.
 #[repr(C)]
@@ -79,7 +81,7 @@ pub extern "C" fn muzgleur_block(
 // The end of the stream: each resampler's last frame, where an output falls on it, runs on through the later stages. The output, where
 // there is one, stands at the front of the half named, and the words stand for the chain with its sound memory cleared and its counters
 // as they were. A refusal alters nothing. A stage can deliver more here than of any block before: halves by `muzgleur_scratch_bytes`
-// need not suffice.
+// need not suffice; `muzgleur_finish_room` knows.
 #[no_mangle]
 pub extern "C" fn muzgleur_finish(chain: &mut [u32], a: &mut [u8], b: &mut [u8]) -> FinishTold
     ensures all { λ r. ⌜ record { result = r; chain = chainOfWords (now (chain .exit)); a = now (a .exit); b = now (b .exit) } ≡ finishOutcome (finishCall (chainOfWords (now (chain .entry))) (now (a .entry)) (now (b .entry))) ⌝ }
@@ -133,6 +135,23 @@ pub extern "C" fn muzgleur_scratch_bytes(chain: &[u32], size: usize) -> ScratchR
         number: answer.number(),
         value: answer.value(),
     }
+}
+
+// What a block of so many frames in the chain's format will bring, whatever its bytes: the frames that leave the last stage, 0 where that
+// would be 'nothing yet', and the bytes of each of the smallest two equal halves that are accepted.
+#[no_mangle]
+pub extern "C" fn muzgleur_block_room(chain: &[u32], frames: usize) -> RoomTold
+    ensures { λ r. ⌜ r ≡ roomTold (blockRoom (chainOfWords (now (chain .entry))) frames) ⌝ }
+{
+    word_room::block_room(chain, frames).told()
+}
+
+// The same of a finish; where nothing is due both are 0.
+#[no_mangle]
+pub extern "C" fn muzgleur_finish_room(chain: &[u32]) -> RoomTold
+    ensures { λ r. ⌜ r ≡ roomTold (finishRoom (chainOfWords (now (chain .entry)))) ⌝ }
+{
+    word_room::finish_room(chain).told()
 }
 
 // The recipe's bytes, without its notes, at the front of out; bytes past them stay.
