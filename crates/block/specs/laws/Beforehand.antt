@@ -13,12 +13,11 @@ use Rattle.pcm.specs.Frames.{Frame}
 use Rattle.stage.specs.declared.Stage.{Stage}
 use Rattle.stage.specs.Stages.{stageOut, formatAfter}
 use Rattle.stage.specs.laws.Stages.{stage-out-nil}
-use Rattle.stage.specs.Rooms.{stageSuits, framesOut}
+use Rattle.stage.specs.Rooms.{stageSuits}
 use Rattle.stage.specs.laws.Rooms.{stage-count}
 use Rattle.pcm.specs.laws.Tests.{true-false}
 use Rattle.questions.specs.declared.Question.{Question}
 use Rattle.questions.specs.declared.Question.the-variants.{Block}
-use Rattle.questions.specs.declared.Due.{Due}
 use Rattle.questions.specs.declared.Walk.{Walk}
 use Rattle.block.specs.Chain.{chainOut}
 use Rattle.block.specs.BlockCall.{suited}

@@ -1,7 +1,6 @@
 -- The figures of the walk are those of the calls: laws of `Smallest`, and of the walk with halves lent. Assumes nothing.
 use mathlib.Core.Path.{_≡_, refl, sym, ap, ap₂, _∙_, subst}
 use mathlib.Core.Bool.{Bool, true, false, _&&_}
-use mathlib.Core.List.{List}
 use Prim.Native.Nat.{ℕ, _-_, _*_, _≤_, _<_}
 use native.Mathlib.Omega.{arith}
 use borrow.Author.Tests.{ne-eqb, eq-eqb}
@@ -19,7 +18,6 @@ use Rattle.questions.specs.declared.Question.{Question}
 use Rattle.questions.specs.declared.Question.the-variants.{Block, Finish}
 use Rattle.questions.specs.declared.Walk.{Walk}
 use Rattle.questions.specs.Walk.{headLegal, sameFormat, sizeVerdict, begun, walked, sizedFrom, verdictFrom}
-use Rattle.block.specs.Bounds.{Legal}
 use Rattle.block.specs.BlockCall.{suited, legal, blockVerdict}
 use Rattle.block.specs.laws.Beforehand.{Fits, Alike, walked-fits, begun-fits, walked-alike}
 use Rattle.block.specs.laws.Bounds.{legal-parts}

@@ -1,5 +1,4 @@
 -- `word_room::walked` meets its contract. Assumes nothing.
-use borrow.Author.Needs.{needs}
 use mathlib.Core.Path.{_≡_}
 use mathlib.Core.Bool.{true}
 use Rattle.questions.specs.Walk.{headLegal}
