@@ -2,6 +2,8 @@
 use mathlib.Core.Path.{_≡_, refl, sym, ap, ap₂, _∙_, subst}
 use mathlib.Core.Bool.{Bool, true, false, _&&_}
 use Prim.Native.Nat.{ℕ, _-_, _*_, _≤_, _<_}
+use native.Mathlib.Decide.{decLt}
+use native.Mathlib.Nat.{le-refl}
 use native.Mathlib.Omega.{arith}
 use borrow.Author.Tests.{ne-eqb, eq-eqb}
 use lib.Dec.{leb}
@@ -29,6 +31,17 @@ use Rattle.finish.specs.laws.Stepping.{end-is}
 use Rattle.room.specs.declared.Room.the-variants as room
 use Rattle.room.specs.Room.{found, roomAnswer}
 use Rattle.room.specs.Beforehand.{TooSmall, Smallest}
+
+-- ---- of two smallest halves neither is the larger: the other would be accepted and refused
+pub no-larger : (verdict : ℕ → Verdict) (m n : ℕ) → Smallest verdict m → Smallest verdict n → m ≤ n
+no-larger verdict m n p q = go (decLt n m)
+  where
+    go : Dec (n < m) → m ≤ n
+    go (yes l) =
+        let a : verdict n ≡ Accepted = q .enough n (le-refl n) in
+        let b = p .too-small n l .verdict in
+        let z : _≡_ {A = ℕ} 0 1 = cc in omega arith
+    go (no l) = omega arith
 
 -- ---- from a walk whose first room short is the verdict's, and whose largest room is `half` whatever the halves
 module _ (verdict : ℕ → Verdict) (walk : ℕ → Walk) (half : ℕ)
