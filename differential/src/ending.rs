@@ -1,7 +1,8 @@
 //! The end of a stream (document 02, Q-1), which the Rust does not have. What a stage makes of the frames that arrive is the Rust's;
 //! a resampler's last frame is worked out beside it, from the count of frames that it received.
 
-use crate::source::{Address, Buffer, Format, Stage, take_clipped};
+use crate::beforehand::Room;
+use crate::source::{Address, Format, Stage, run_stage, take_clipped};
 use oracle::elements::LinearResampler;
 use oracle::esp_core::error::Result;
 use oracle::esp_core::pcm::{PcmBlock, PcmFormat};
@@ -21,6 +22,15 @@ impl Resampler {
     pub fn new(rates: [u32; 2]) -> Result<Self> {
         let own = LinearResampler::new(rates[0], rates[1])?;
         Ok(Resampler { own, rates: rates.map(u64::from), received: 0, delivered: 0, last: vec![] })
+    }
+
+    /// Of the next so many frames: with T received in all, T at least 1, unequal rates have delivered ceil((T - 1) × out ÷ in).
+    pub fn delivers(&self, frames: u64) -> u64 {
+        let [input, output] = self.rates;
+        if input == output || frames == 0 {
+            return frames;
+        }
+        ((self.received + frames - 1) * output).div_ceil(input) - self.delivered
     }
 
     /// The last of T frames, where the rates are unequal and (T - 1) × out ÷ in is whole; else nothing. With it
@@ -65,27 +75,27 @@ impl Element for Resampler {
 
 /// What a stage delivers that takes what arrives, and ends; its format becomes the one that leaves it.
 fn stage_end(stage: &mut Stage, format: &mut Format, arriving: &[u8], address: Address) -> Vec<u8> {
-    let reaching = format.pcm();
-    let element = stage.element();
-    *format = element.output_format(reaching).expect("a chain that opened").into();
-    let mut delivered = vec![];
-    if !arriving.is_empty() {
-        let input = Buffer::new(&[arriving], address);
-        let mut out = Buffer::new(&[&vec![0; element.max_output_bytes(reaching, arriving.len())]], address);
-        let block = PcmBlock::new(reaching, 0, input.get()).expect("whole frames");
-        let written = element.process(block, out.get_mut()).expect("room for all it makes");
-        delivered.extend_from_slice(&out.get()[..written]);
-    }
+    let (mut delivered, _) = run_stage(stage, format, arriving, address);
     if let Stage::Resample(resampler) = stage {
         delivered.extend_from_slice(resampler.last_frame());
     }
     delivered
 }
 
-/// What each stage of a chain delivers at its end, and how many samples were held back.
+/// What each stage of a chain delivers at its end, the format that leaves the last, and how many samples were held back.
 pub struct End {
     pub delivered: Vec<Vec<u8>>,
+    pub format: Format,
     pub clipped: u64,
+}
+
+impl End {
+    /// Each stage wants room for what it delivers.
+    pub fn room(&self) -> Room {
+        let lengths = || self.delivered.iter().map(Vec::len);
+        let (last, largest) = (lengths().last().unwrap_or(0), lengths().max().unwrap_or(0));
+        Room { frames: (last / self.format.frame()) as u64, half: largest as u64 }
+    }
 }
 
 /// At each stage all that the one before delivers arrives first. The stages do not move.
@@ -96,5 +106,5 @@ pub fn end(stages: &[Stage], mut format: Format, address: Address) -> End {
         let bytes = stage_end(stage, &mut format, arriving, address);
         delivered.push(bytes);
     }
-    End { delivered, clipped: take_clipped(&mut stages) }
+    End { delivered, format, clipped: take_clipped(&mut stages) }
 }

@@ -6,6 +6,7 @@
 //!     differential REPLAY NOTES --times       says what each family took and which answers were reached
 //!     differential --sample DIR               writes a sample of script and answers as DIR/stdin and DIR/stdout
 
+mod beforehand;
 mod clipping;
 mod desk;
 mod differences;

@@ -1,5 +1,6 @@
 //! What every call must answer: the questions of documents 01 and 02 in their order, and the Rust's values wherever it has the call.
 
+use crate::beforehand::{self, Room};
 use crate::clipping;
 use crate::ending::{self, End, Resampler};
 use crate::notes::{self, is_note};
@@ -185,7 +186,7 @@ impl Chain {
     }
 
     /// What each stage delivers at a finish, over buffers at even and odd addresses, which must agree.
-    fn end(&self) -> End {
+    pub fn end(&self) -> End {
         let [even, odd] = ADDRESSES.map(|address| ending::end(&self.stages[address as usize], self.format, address));
         assert!(even.delivered == odd.delivered, "the source's arms disagree at the end: {:?} {:X?}", self.format, self.recipe);
         even
@@ -193,20 +194,34 @@ impl Chain {
 
     /// The bytes of each of the smallest equal halves that a finish accepts.
     pub fn room_at_end(&self) -> usize {
-        self.end().delivered.iter().map(Vec::len).max().unwrap_or(0)
+        self.end().room().half as usize
+    }
+
+    /// 1 to 8,192 frames: none is 4, too many is 10.
+    pub fn block_room(&mut self, frames: u64) -> Result<Room, u16> {
+        match frames {
+            0 => Err(INVALID_GEOMETRY),
+            _ if frames > MOST_FRAMES as u64 => Err(TOO_MANY_FRAMES),
+            _ => Ok(beforehand::by_counts(&mut self.stages[0], self.format, frames)),
+        }
+    }
+
+    /// The same by sound, for as many frames as are allowed.
+    pub fn room_by_sound(&self, frames: u64) -> Room {
+        beforehand::by_sound(&self.stages[1], self.format, frames)
     }
 
     /// Room for what each stage delivers, in chain order; then the front of each stage's half is written and the stream is over.
-    pub fn finish(&mut self, halves: [&[u8]; 2]) -> Answer {
+    pub fn finish(&mut self, end: End, halves: [&[u8]; 2]) -> Answer {
         let shorter = halves[0].len().min(halves[1].len());
-        let End { delivered, clipped } = self.end();
+        let End { delivered, format, clipped } = end;
         let short = delivered.iter().map(Vec::len).find(|length| *length > shorter);
         let mut answer = Answer { halves: halves.map(<[u8]>::to_vec), counters: self.counters, ..Answer::default() };
         if let Some(length) = short {
             (answer.number, answer.needed) = (BUFFER_TOO_SMALL, 2 * length as u64);
             return answer;
         }
-        let mut output = Sound { format: self.output_format(), ..Sound::default() };
+        let mut output = Sound { format, ..Sound::default() };
         for (bytes, half) in delivered.into_iter().zip([0, 1].into_iter().cycle()) {
             answer.halves[half][..bytes.len()].copy_from_slice(&bytes);
             (output.half, output.bytes) = (half as u8, bytes);

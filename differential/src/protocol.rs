@@ -23,6 +23,8 @@ pub const LINEAR: u8 = 0x0C;
 pub const ROUND_SAT16: u8 = 0x0D;
 pub const SAT16: u8 = 0x0E;
 pub const FINISH: u8 = 0x10;
+pub const BLOCK_ROOM: u8 = 0x11;
+pub const FINISH_ROOM: u8 = 0x12;
 
 /// The byte that `replay` ends with where the script breaks off or is not one.
 pub const END_MARK: u8 = 0xFF;
@@ -38,7 +40,7 @@ pub fn command_of(code: u8) -> Option<&'static Command> {
     COMMANDS.iter().find(|command| command.code == code)
 }
 
-pub const COMMANDS: [Command; 15] = [
+pub const COMMANDS: [Command; 17] = [
     command(OPEN, "open", "u32 rate, u16 channels, bytes recipe", "u16 number"),
     command(
         BLOCK,
@@ -71,6 +73,8 @@ pub const COMMANDS: [Command; 15] = [
         "u16 number, u64 needed, u8 outcome, u32 rate, u16 channels, u8 half, u32 length, \
          bytes output, bytes half a, bytes half b, u64 blocks, u64 empty_blocks, u64 clipped",
     ),
+    command(BLOCK_ROOM, "block room", "u64 frames", "u16 number, u64 frames, u64 half"),
+    command(FINISH_ROOM, "finish room", "", "u16 number, u64 frames, u64 half"),
 ];
 
 /// Fields, low byte first, appended to a script or an answer.

@@ -1,6 +1,8 @@
 //! A script under way: calls are appended with what they must answer, then `replay` runs it and everything is compared.
 
+use crate::beforehand::{self, Room};
 use crate::clipping::held_back;
+use crate::ending::End;
 use crate::model::{self, Answer, Chain, Given};
 use crate::protocol::*;
 use crate::recipe::{Designs, Recipe};
@@ -185,7 +187,47 @@ impl Session {
         self.open(recipe.format, &recipe.bytes)
     }
 
+    /// The question alone. Where a script could lend the halves, the source's sound must say the same.
+    pub fn block_room(&mut self, frames: u64) -> Result<Room, u16> {
+        let room = self.ask_block(frames);
+        if let Ok(room) = room
+            && room.half <= LONGEST as u64
+        {
+            assert_eq!(room, self.chain.room_by_sound(frames), "{frames} frames: {:02X?}", self.chain.recipe);
+        }
+        room
+    }
+
+    pub fn finish_room(&mut self) -> Room {
+        let end = self.chain.end();
+        self.ask_finish(&end)
+    }
+
+    fn ask_block(&mut self, frames: u64) -> Result<Room, u16> {
+        self.begin(BLOCK_ROOM);
+        self.script.put(frames.to_le_bytes());
+        let room = self.chain.block_room(frames);
+        self.room(room);
+        room
+    }
+
+    fn ask_finish(&mut self, end: &End) -> Room {
+        self.begin(FINISH_ROOM);
+        self.room(Ok(end.room()));
+        end.room()
+    }
+
+    fn room(&mut self, room: Result<Room, u16>) {
+        self.number(room.err().unwrap_or(0));
+        let Room { frames, half } = room.unwrap_or_default();
+        [frames, half].iter().for_each(|value| self.answers.put(value.to_le_bytes()));
+    }
+
+    /// Where the block is whole frames of the chain's format, its room is asked first.
     pub fn block(&mut self, block: Block) -> Answer {
+        let (length, frame) = (block.sound.len(), self.chain.format.frame());
+        let suits = block.format == self.chain.format && length.is_multiple_of(frame);
+        let asked = suits.then(|| self.ask_block((length / frame) as u64));
         self.begin(BLOCK);
         self.script.put(block.format.rate.to_le_bytes());
         self.script.put(block.format.channels.to_le_bytes());
@@ -193,14 +235,21 @@ impl Session {
         [block.sound, block.halves[0], block.halves[1]].iter().for_each(|bytes| self.script.put_bytes(bytes));
         let answer = self.chain.block(block);
         self.sounded(BLOCK, &answer);
+        if let Some(asked) = asked {
+            beforehand::hold(asked, block.halves, &answer);
+        }
         answer
     }
 
+    /// Its room is asked first.
     pub fn finish(&mut self, halves: [&[u8]; 2]) -> Answer {
+        let end = self.chain.end();
+        let room = self.ask_finish(&end);
         self.begin(FINISH);
         halves.iter().for_each(|half| self.script.put_bytes(half));
-        let answer = self.chain.finish(halves);
+        let answer = self.chain.finish(end, halves);
         self.sounded(FINISH, &answer);
+        beforehand::hold(Ok(room), halves, &answer);
         answer
     }
 

@@ -48,6 +48,14 @@ impl Stage {
         self
     }
 
+    /// How many frames the stage delivers of the next so many, by counts alone.
+    pub fn delivers(&self, frames: u64) -> u64 {
+        match self {
+            Stage::Resample(stage) => stage.delivers(frames),
+            _ => frames,
+        }
+    }
+
     /// How many samples were held back since this was last asked.
     fn take_clipped(&mut self) -> u64 {
         match self {
@@ -217,6 +225,21 @@ pub fn process(stages: &[Stage], counters: [u64; 2], block: Block, address: Addr
     let (a, b) = buffer.get().split_at(half);
     let after = |written: &[u8], lent: &[u8]| [written, &lent[half..]].concat();
     Ran { answer, halves: [after(a, block.halves[0]), after(b, block.halves[1])], counters, clipped, stages }
+}
+
+/// What a stage makes of the bytes that reach it, and the room that it wants for that; the format becomes the one that leaves it.
+pub fn run_stage(stage: &mut Stage, format: &mut Format, arriving: &[u8], address: Address) -> (Vec<u8>, usize) {
+    let reaching = format.pcm();
+    let element = stage.element();
+    *format = element.output_format(reaching).expect("a chain that opened").into();
+    if arriving.is_empty() {
+        return (vec![], 0);
+    }
+    let wanted = element.max_output_bytes(reaching, arriving.len());
+    let (input, mut out) = (Buffer::new(&[arriving], address), Buffer::new(&[&vec![0; wanted]], address));
+    let block = PcmBlock::new(reaching, 0, input.get()).expect("whole frames");
+    let written = element.process(block, out.get_mut()).expect("room for all it makes");
+    (out.get()[..written].to_vec(), wanted)
 }
 
 pub fn reset(stages: &mut [Stage]) {

@@ -18,6 +18,7 @@ use pipeline::Pipeline;
 use rates::LinearResampler;
 use rates::MaxFrames;
 use rates::NewResampler;
+use room::RoomTold;
 
 // Rate and channels at the front of a command's fields.
 fn format_of(s: &[u8]) -> PcmFormat
@@ -217,6 +218,28 @@ pub fn scratch_bytes(chain: Pipeline) -> bool {
     }
     let answer = block::scratch_bytes(chain, words::get_u64(&s, 0) as usize);
     valued(answer.number(), answer.value() as u64);
+    true
+}
+
+// Number and frames of a room known beforehand, and the bytes of one half.
+fn room_told(t: RoomTold) {
+    valued(t.number, t.frames as u64);
+    output::long(t.half as u64);
+}
+
+pub fn block_room(chain: Pipeline) -> bool {
+    let mut s = [0u8; 8];
+    if !input::filled(&mut s) {
+        return false;
+    }
+    let answer = room::block_room(chain, words::get_u64(&s, 0) as usize);
+    room_told(answer.told());
+    true
+}
+
+pub fn finish_room(chain: Pipeline) -> bool {
+    let answer = room::finish_room(chain);
+    room_told(answer.told());
     true
 }
 

@@ -40,6 +40,8 @@ fn other(code: u8, chain: Pipeline, sound: &mut [u8], a: &mut [u8], b: &mut [u8]
         0x0c => calls::linear(),
         0x0d => calls::round_sat16(),
         0x0e => calls::sat16(),
+        0x11 => calls::block_room(chain),
+        0x12 => calls::finish_room(chain),
         _ => false,
     }
 }

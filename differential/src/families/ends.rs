@@ -13,6 +13,8 @@ pub fn one_of_each(session: &mut Session) {
     session.block(Block { format, timestamp: 9, sound: &[1, 2], halves: [&[0; 4], &[0; 5]] });
     session.reset();
     session.finish([&[6; 2], &[7; 3]]);
+    let _ = session.block_room(3);
+    session.finish_room();
     session.write_recipe(vec![8; 5]);
     let _ = session.scratch_bytes(4);
     session.output_format();

@@ -1,5 +1,6 @@
 //! Families of cases.
 
+mod beforehand;
 mod chains;
 mod clipping;
 mod cuttings;
@@ -23,7 +24,7 @@ use crate::source::Block;
 type Family = (&'static str, fn(&mut Session, &mut Random));
 
 /// The same cases whatever the seed.
-const FIXED: [Family; 16] = [
+const FIXED: [Family; 19] = [
     ("short recipes", recipes::short),
     ("record lengths", recipes::lengths),
     ("limits of settings", recipes::limits),
@@ -36,6 +37,9 @@ const FIXED: [Family; 16] = [
     ("finishes, one frame that becomes many", finishes::wide),
     ("divisors of rates", divisors::every),
     ("every length", room::every_length),
+    ("room beforehand at the limits", beforehand::limits),
+    ("room beforehand at many counts", beforehand::counts),
+    ("room beforehand past 2^32", beforehand::long),
     ("rounding beside every half", numbers::halves),
     ("all samples at many gains", samples::gains),
     ("end marks", ends::every),
@@ -43,7 +47,7 @@ const FIXED: [Family; 16] = [
 ];
 
 /// Other cases with every seed.
-const SEEDED: [Family; 25] = [
+const SEEDED: [Family; 26] = [
     ("stages alone", chains::lone),
     ("chains", chains::any),
     ("chains, long blocks", chains::long_blocks),
@@ -52,6 +56,7 @@ const SEEDED: [Family; 25] = [
     ("finishes at any rates", finishes::rates),
     ("finishes of chains", finishes::of_chains),
     ("scratch_bytes", room::scratch),
+    ("room of chains beforehand", beforehand::of_chains),
     ("recipes cut and damaged", recipes::damaged),
     ("chains with notes", notes::chains),
     ("recipes with notes, cut and damaged", notes::damaged),

@@ -1,10 +1,10 @@
 //! A sample of scripts, small enough to store, that reaches every command, refusal, outcome and stage kind.
 
 use super::{
-    Random, Session, ample_block, ample_finish, ample_half, any_frames, block_over, chains, clipping, divisors, ends, finish_over,
-    finishes, notes, numbers, open_any, sound_of,
+    Random, Session, ample_block, ample_finish, ample_half, any_frames, beforehand, block_over, chains, clipping, divisors, ends,
+    finish_over, finishes, notes, numbers, open_any, sound_of,
 };
-use crate::protocol::{BLOCK, COMMANDS, END_MARK, FINISH, MIX, ROUND_SAT16, SAT16};
+use crate::protocol::{BLOCK, BLOCK_ROOM, COMMANDS, END_MARK, FINISH, FINISH_ROOM, MIX, ROUND_SAT16, SAT16};
 use crate::recipe;
 use crate::source::Format;
 use std::collections::BTreeSet;
@@ -23,6 +23,7 @@ pub fn gather(session: &mut Session, random: &mut Random) {
     clipping::few(session, random);
     damaged(session, random);
     numbers::few(session, random);
+    beforehand::few(session, random);
     session.script.push(END_MARK);
     session.answers.push(END_MARK);
     check(session, &sounded);
@@ -120,6 +121,9 @@ fn check(session: &Session, sounded: &BTreeSet<u8>) {
     (1..=11).for_each(|number| assert!(has(&|seen| seen.1 == number), "refusal {number} is not in the sample"));
     for (command, outcome) in [BLOCK, FINISH].into_iter().flat_map(|command| [0, 1, 2].map(|outcome| (command, outcome))) {
         assert!(has(&|seen| seen.0 == command && seen.2 == outcome), "outcome {outcome} of command {command} is not in the sample");
+    }
+    for (command, number) in [(BLOCK_ROOM, 0), (BLOCK_ROOM, 4), (BLOCK_ROOM, 10), (FINISH_ROOM, 0)] {
+        assert!(has(&|seen| seen.0 == command && seen.1 == number), "number {number} of command {command} is not in the sample");
     }
     for counted in [(BLOCK, 1), (BLOCK, 2), (FINISH, 1), (FINISH, 2), (MIX, 0), (ROUND_SAT16, 0), (SAT16, 0)] {
         assert!(session.clipped[&counted] > 0, "nothing is clipped in the sample by command and outcome {counted:?}");
