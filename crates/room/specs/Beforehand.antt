@@ -23,7 +23,7 @@ use Rattle.room.specs.declared.Room.the-variants as room
 use Rattle.room.specs.Room.{blockRoom, finishRoom}
 
 -- ---- the smallest halves
--- a shorter half that is too small: 3, with needed = twice the room of the first stage short
+-- a shorter half that is too small: 3, with needed = twice the room of the first stage short, which is more than that half and at most `half`
 pub record TooSmall (v : Verdict) (shorter half : ℕ) : Type 0 where
   pub first : ℕ
   pub verdict : v ≡ Refused (BufferTooSmall (2 * first))

@@ -43,7 +43,7 @@ finishAsked c = ask (legal c) InvalidFormat Accepted
 
 -- ---- the answer
 -- 'the exact number of output frames', those that leave the last stage, 'and the smallest equal halves that are accepted': in bytes of one half
--- the largest room wanted over the stages that will be reached, for no stages by the block
+-- the largest room wanted over the stages that will be reached, for no stages by the block; at a finish a stage wants room for what it delivers
 abbrev pub roomAnswer : Verdict → Walk → Room
 roomAnswer Accepted w = room.Known (w .frames) (w .largest)
 roomAnswer (Refused e) w = room.Refused e
