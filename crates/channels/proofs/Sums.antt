@@ -1,4 +1,4 @@
--- Two samples and their sum fit 32 bits, and the sum is held back where one leaves no room for the other. Assumes nothing.
+-- A sum is held back where one sample leaves no room for the other. Assumes nothing.
 use mathlib.Core.Path.{_≡_, sym, _∙_, subst}
 use mathlib.Core.Bool.{true, false}
 use Prim.Native.Nat.{ℕ, suc, _+_, _-_, _≤_, _<_}
@@ -10,22 +10,9 @@ use lib.IntN.{ℤ, pos, negsuc, subℕ, _+ℤ_, _-ℤ_}
 use lib.Signed.{ltZ}
 use mir.Syntax.{w16, w32}
 use mir.Val.{SFits}
-use mir.Facts.{sfits-widen}
-use Rattle.pcm.specs.laws.Integers.{add-within, sub-within, fits-within, within-fits, pos-sub-pos, sub-lt, sub-ge}
+use Rattle.pcm.specs.laws.Integers.{sub-within, fits-within, within-fits, pos-sub-pos, sub-lt, sub-ge}
 use Rattle.pcm.specs.Samples.{outside16}
 use Rattle.counting.specs.laws.Limits.{same-test, outside-pos, outside-neg, sample-inside}
-
-pub record Summed (a b : ℤ) : Type 0 where
-  pub left : SFits w32 a
-  pub right : SFits w32 b
-  pub sum : SFits w32 (a +ℤ b)
-
-pub summed : (a b : ℤ) → SFits w16 a → SFits w16 b → Summed a b
-summed a b f g = record {
-  left = sfits-widen tt f;
-  right = sfits-widen tt g;
-  sum = fits-within w32 (a +ℤ b) (add-within a b (within-fits a f) (within-fits b g)) (lit< tt);
-}
 
 -- ---- the room that a sample leaves
 pub room-fits : (z b : ℤ) → SFits w16 z → SFits w16 b → SFits w32 (z -ℤ b)

@@ -3,6 +3,7 @@ pub mod Integers
 pub mod Lists
 pub mod Refusals
 pub mod Samples
+pub mod Sums
 pub mod Tests
 pub mod Writing
 pub mod Written

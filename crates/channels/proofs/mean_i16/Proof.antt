@@ -6,7 +6,7 @@ use mir.Facts.{toZ-ofZ, sfits-widen}
 use Rattle.pcm.specs.Integers.{floorDiv}
 use Rattle.channels.specs.Channels.{mean}
 use Rattle.channels.specs.laws.Channels.{mean-fits}
-use Rattle.channels.proofs.Sums.{Summed, summed}
+use Rattle.pcm.specs.laws.Sums.{Summed, summed}
 use Rattle.channels.proofs.mean_i16.Statement.{statement}
 use Rattle.channels.proofs.mean_i16.Tie as tie
 

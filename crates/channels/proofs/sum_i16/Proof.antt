@@ -4,7 +4,7 @@ use mir.Syntax.{w16}
 use mir.Facts.{toZ-ofZ}
 use Rattle.pcm.specs.laws.Integers.{answered}
 use Rattle.channels.specs.Channels.{mixed}
-use Rattle.channels.proofs.Sums.{Summed, summed}
+use Rattle.pcm.specs.laws.Sums.{Summed, summed}
 use Rattle.channels.proofs.sum_i16.Statement.{statement}
 use Rattle.channels.proofs.sum_i16.Tie as tie
 

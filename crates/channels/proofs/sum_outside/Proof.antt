@@ -3,7 +3,8 @@ use lib.IntN.{pos, negsuc, _-ℤ_}
 use mir.Syntax.{w32}
 use mir.Val.{SFits}
 use mir.Facts.{toZ-ofZ, sfits-lit}
-use Rattle.channels.proofs.Sums.{Summed, summed, room-fits, room-below, room-above}
+use Rattle.pcm.specs.laws.Sums.{Summed, summed}
+use Rattle.channels.proofs.Sums.{room-fits, room-below, room-above}
 use Rattle.channels.proofs.sum_outside.Statement.{statement}
 use Rattle.channels.proofs.sum_outside.Tie as tie
 
