@@ -1,6 +1,7 @@
 pub mod Frames
 pub mod Integers
 pub mod Lists
+pub mod Nearest
 pub mod Refusals
 pub mod Samples
 pub mod Sums
