@@ -80,8 +80,8 @@ fn resample(name: &'static str, given: [u32; 2], channels: u16) -> Case {
 
 type Run<T> = fn(&[u8], &mut [u8]) -> T;
 
-fn channel_stage(name: &'static str, channels: usize, source: Run<usize>, ours: Run<Wrote>) -> Case {
-    Case { name, channels, goal: [None, Some(1.1), Some(1.1)], source: Box::new(source), ours: Box::new(ours), clipped: Box::new(|_| 0) }
+fn channel_stage(name: &'static str, channels: usize, goal: f64, source: Run<usize>, ours: Run<Wrote>) -> Case {
+    Case { name, channels, goal: [None, Some(goal), Some(goal)], source: Box::new(source), ours: Box::new(ours), clipped: Box::new(|_| 0) }
 }
 
 /// The two streams of a mix.
@@ -111,8 +111,8 @@ pub fn all() -> Vec<Case> {
         gain("gain 32,768 (copy)", 32_768, 1.1),
         gain("gain 65,536 (wide)", 65_536, 0.45),
         gain("gain 33,554,432 (wide)", 33_554_432, 0.45),
-        channel_stage("mono to stereo", 1, |input, out| process(&mut MonoToStereo, 1, input, out), kernels::mono_to_stereo),
-        channel_stage("stereo to mono", 2, |input, out| process(&mut StereoToMono, 2, input, out), kernels::stereo_to_mono),
+        channel_stage("mono to stereo", 1, 1.1, |input, out| process(&mut MonoToStereo, 1, input, out), kernels::mono_to_stereo),
+        channel_stage("stereo to mono", 2, 1.15, |input, out| process(&mut StereoToMono, 2, input, out), kernels::stereo_to_mono),
         Case {
             name: "mix",
             channels: 2,

@@ -45,15 +45,18 @@ impl Buffer {
     }
 }
 
-/// Sound with loud and soft parts, the same for both sides.
+/// Sound with loud and soft parts, the same for both sides. Both samples of a frame are even, or both odd: the source's stereo to mono,
+/// which rounds down, then gives the mean that ours does.
 fn sound(out: &mut [u8]) {
     let mut state = 0x2545_f491_4f6c_dd1du64;
-    for pair in out.chunks_exact_mut(2) {
+    let mut last_bit = 0;
+    for (i, pair) in out.chunks_exact_mut(2).enumerate() {
         state ^= state << 13;
         state ^= state >> 7;
         state ^= state << 17;
         let x = ((state >> 32) as i16) >> (state & 3);
-        pair.copy_from_slice(&x.to_le_bytes());
+        last_bit = if i % 2 == 0 { x & 1 } else { last_bit };
+        pair.copy_from_slice(&(x & !1 | last_bit).to_le_bytes());
     }
 }
 

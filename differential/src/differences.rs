@@ -1,7 +1,9 @@
 //! What docs/DIFFERENCES.md says of the Rust, run through it.
 
+use crate::clipping::samples;
+use crate::mixdown::Mixdown;
 use crate::model::{BUFFER_TOO_SMALL, Given};
-use crate::source::{Address, Block, Format, Ran, Stage, process, refusal};
+use crate::source::{Address, Block, Format, Ran, Stage, process, refusal, run_stage};
 use oracle::elements::{BiquadKind, Coefficients, DcBlock, Gain, LinearResampler, MonoToStereo};
 
 const MONO: Format = Format { rate: 16_000, channels: 1 };
@@ -36,6 +38,21 @@ fn formats_and_lengths() {
     }
 }
 
+/// What the Rust's own mixdown and the rule make of one frame.
+fn mixed_down(l: i16, r: i16) -> [Option<i16>; 2] {
+    let frame = [l.to_le_bytes(), r.to_le_bytes()].concat();
+    let rule = Stage::StereoToMono(Mixdown::default());
+    [rule.clone().own(), rule].map(|mut stage| {
+        let (mono, _) = run_stage(&mut stage, &mut Format { rate: 16_000, channels: 2 }, &frame, Address::Even);
+        samples(&mono).next()
+    })
+}
+
+fn mixdowns() {
+    assert_eq!(mixed_down(-1, 0), [Some(-1), Some(0)], "an exact half is rounded down");
+    assert_eq!(mixed_down(1, 2), [Some(1), Some(2)], "an exact half is rounded down");
+}
+
 fn settings() {
     assert_eq!(Gain::linear(f32::NAN).q15(), 0);
     assert_eq!(DcBlock::pole(20.0, 0), f32::NEG_INFINITY);
@@ -56,5 +73,6 @@ pub fn check() {
     refused_blocks();
     counters();
     formats_and_lengths();
+    mixdowns();
     settings();
 }

@@ -2,6 +2,7 @@
 //! a resampler's last frame is worked out beside it, from the count of frames that it received.
 
 use crate::beforehand::Room;
+use crate::mixdown;
 use crate::source::{Address, Format, Stage, run_stage, take_clipped};
 use oracle::elements::LinearResampler;
 use oracle::esp_core::error::Result;
@@ -82,18 +83,23 @@ fn stage_end(stage: &mut Stage, format: &mut Format, arriving: &[u8], address: A
     delivered
 }
 
-/// What each stage of a chain delivers at its end, the format that leaves the last, and how many samples were held back.
+/// What each stage of a chain delivers at its end, the format that leaves the last, how many samples were held back, and whether every
+/// l + r that reached a mixdown was even to the end.
 pub struct End {
     pub delivered: Vec<Vec<u8>>,
     pub format: Format,
     pub clipped: u64,
+    pub all_even: bool,
 }
 
 impl End {
+    pub fn lengths(&self) -> impl Iterator<Item = usize> {
+        self.delivered.iter().map(Vec::len)
+    }
+
     /// Each stage wants room for what it delivers.
     pub fn room(&self) -> Room {
-        let lengths = || self.delivered.iter().map(Vec::len);
-        let (last, largest) = (lengths().last().unwrap_or(0), lengths().max().unwrap_or(0));
+        let (last, largest) = (self.lengths().last().unwrap_or(0), self.lengths().max().unwrap_or(0));
         Room { frames: (last / self.format.frame()) as u64, half: largest as u64 }
     }
 }
@@ -106,5 +112,5 @@ pub fn end(stages: &[Stage], mut format: Format, address: Address) -> End {
         let bytes = stage_end(stage, &mut format, arriving, address);
         delivered.push(bytes);
     }
-    End { delivered, format, clipped: take_clipped(&mut stages) }
+    End { delivered, format, clipped: take_clipped(&mut stages), all_even: mixdown::all_even(&stages) }
 }

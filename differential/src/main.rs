@@ -3,7 +3,8 @@
 //!
 //!     differential REPLAY NOTES               compares
 //!     differential REPLAY NOTES --long N      with the cases of N seeds
-//!     differential REPLAY NOTES --times       says what each family took and which answers were reached
+//!     differential REPLAY NOTES --times       says what each family took, which answers were reached, and how far mixdowns were held to
+//!                                             the source
 //!     differential --sample DIR               writes a sample of script and answers as DIR/stdin and DIR/stdout
 
 mod beforehand;
@@ -12,6 +13,7 @@ mod desk;
 mod differences;
 mod ending;
 mod families;
+mod mixdown;
 mod model;
 mod notes;
 mod protocol;
@@ -56,6 +58,10 @@ fn compare(replay: PathBuf, notes: PathBuf, rounds: u64, timed: bool) {
         for ((command, outcome), clipped) in &session.clipped {
             let name = protocol::command_of(*command).map_or("unknown", |command| command.name);
             println!("{name}, outcome {outcome}: {} samples clipped", grouped(*clipped));
+        }
+        for ((command, held), answers) in &session.held {
+            let name = protocol::command_of(*command).map_or("unknown", |command| command.name);
+            println!("{name} with a mixdown, held to the source's {}: {}", format!("{held:?}").to_lowercase(), grouped(*answers));
         }
     }
     let mut desk = Desk::new(notes);

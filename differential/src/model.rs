@@ -3,10 +3,11 @@
 use crate::beforehand::{self, Room};
 use crate::clipping;
 use crate::ending::{self, End, Resampler};
+use crate::mixdown::{self, Held, Mixdown};
 use crate::notes::{self, is_note};
 use crate::recipe::{self, Designs};
 use crate::source::{self, ADDRESSES, Address, Block, Buffer, Format, Ran, Sound, Stage, refusal};
-use oracle::elements::{BiquadKind, Coefficients, DcBlock, LinearResampler, MonoToStereo, StereoToMono, mix_i16};
+use oracle::elements::{BiquadKind, Coefficients, DcBlock, LinearResampler, MonoToStereo, mix_i16};
 use std::f64::consts::TAU;
 
 pub const INVALID_FORMAT: u16 = 1;
@@ -37,6 +38,8 @@ pub struct Chain {
     /// What the chain writes back.
     pub recipe: Vec<u8>,
     stages: [Vec<Stage>; 2],
+    /// The Rust's own chain, run beside one that mixes down by another rule than the Rust's.
+    own: Option<Vec<Stage>>,
     pub counters: [u64; 2],
 }
 
@@ -86,7 +89,7 @@ fn stage(kind: u16, fields: &[u8], designs: &Designs) -> Result<Stage, u16> {
     Ok(match kind {
         recipe::GAIN => Stage::gain(field(0) as i32),
         recipe::MONO_TO_STEREO => Stage::MonoToStereo(MonoToStereo),
-        recipe::STEREO_TO_MONO => Stage::StereoToMono(StereoToMono),
+        recipe::STEREO_TO_MONO => Stage::StereoToMono(Mixdown::default()),
         recipe::RESAMPLE => Stage::Resample(Resampler::new([field(0), field(1)]).unwrap()),
         recipe::DC_BLOCK => Stage::dc_block(float(0)),
         _ => Stage::biquad([1, 2, 3, 4, 5].map(float), designs.get(fields).copied()),
@@ -122,7 +125,9 @@ pub fn open(format: Format, bytes: &[u8], designs: &Designs) -> Result<Chain, u1
         kept.extend_from_slice(record);
     }
     let unread = stages.iter().cloned().map(Stage::unread).collect();
-    Ok(Chain { format, recipe: kept, stages: [stages, unread], counters: [0; 2] })
+    let mixes_down = stages.iter().any(|stage| matches!(stage, Stage::StereoToMono(_)));
+    let own = mixes_down.then(|| stages.iter().cloned().map(Stage::own).collect());
+    Ok(Chain { format, recipe: kept, stages: [stages, unread], own, counters: [0; 2] })
 }
 
 /// What a block or a finish answers.
@@ -134,6 +139,8 @@ pub struct Answer {
     pub halves: [Vec<u8>; 2],
     pub counters: [u64; 2],
     pub clipped: u64,
+    /// None for a refusal, and where no stage mixes down.
+    pub held: Option<Held>,
 }
 
 impl Answer {
@@ -163,26 +170,45 @@ impl Chain {
             Some(number) => (number, 0, None),
             None => self.run(block),
         };
-        let Some(ran) = ran else {
+        let Some((ran, held)) = ran else {
             let halves = block.halves.map(<[u8]>::to_vec);
-            return Answer { number, needed, sound: None, halves, counters: self.counters, clipped: 0 };
+            return Answer { number, needed, halves, counters: self.counters, ..Answer::default() };
         };
         self.counters = ran.counters;
-        Answer { number, needed, sound: ran.answer.unwrap(), halves: ran.halves, counters: self.counters, clipped: ran.clipped }
+        Answer { number, needed, sound: ran.answer.unwrap(), halves: ran.halves, counters: self.counters, clipped: ran.clipped, held }
     }
 
     /// The Rust's answer over buffers at even and odd addresses, which must agree; its stages are kept where it took the block.
-    fn run(&mut self, block: Block) -> (u16, u64, Option<Ran>) {
+    fn run(&mut self, block: Block) -> (u16, u64, Option<(Ran, Option<Held>)>) {
         let [even, odd] = ADDRESSES.map(|address| source::process(&self.stages[address as usize], self.counters, block, address));
         let same = even.answer == odd.answer && even.halves == odd.halves && even.counters == odd.counters;
         assert!(same, "the source's arms disagree: {:?} {:X?}, {} bytes", self.format, self.recipe, block.sound.len());
+        let held = self.run_own(block, &even);
         match even.answer {
             Err(error) => (refusal(error).0, refusal(error).1, None),
             Ok(_) => {
                 self.stages = [even.stages.clone(), odd.stages];
-                (0, 0, Some(even))
+                (0, 0, Some((even, held)))
             }
         }
+    }
+
+    /// The same block through the Rust's own chain, where that runs beside; its stages are kept where it took the block.
+    fn run_own(&mut self, block: Block, ran: &Ran) -> Option<Held> {
+        let own = source::process(self.own.as_ref()?, self.counters, block, Address::Even);
+        let same_bytes = ran.answer == own.answer && ran.halves == own.halves;
+        let held = self.hold(ran.but_bytes() == own.but_bytes(), same_bytes, mixdown::all_even(&ran.stages));
+        if own.answer.is_ok() {
+            self.own = Some(own.stages);
+        }
+        Some(held)
+    }
+
+    /// The Rust's own chain has always the same lengths, and the same bytes where every l + r was even.
+    fn hold(&self, same_lengths: bool, same_bytes: bool, all_even: bool) -> Held {
+        assert!(same_lengths, "the source's own chain has other lengths: {:?} {:02X?}", self.format, self.recipe);
+        assert!(same_bytes || !all_even, "the source's own chain has other bytes: {:?} {:02X?}", self.format, self.recipe);
+        if all_even { Held::Sound } else { Held::Lengths }
     }
 
     /// What each stage delivers at a finish, over buffers at even and odd addresses, which must agree.
@@ -190,6 +216,13 @@ impl Chain {
         let [even, odd] = ADDRESSES.map(|address| ending::end(&self.stages[address as usize], self.format, address));
         assert!(even.delivered == odd.delivered, "the source's arms disagree at the end: {:?} {:X?}", self.format, self.recipe);
         even
+    }
+
+    /// The same end of the Rust's own chain, where that runs beside.
+    fn hold_end(&self, end: &End) -> Option<Held> {
+        let own = ending::end(self.own.as_ref()?, self.format, Address::Even);
+        let same_lengths = end.format == own.format && end.lengths().eq(own.lengths());
+        Some(self.hold(same_lengths, end.delivered == own.delivered, end.all_even))
     }
 
     /// The bytes of each of the smallest equal halves that a finish accepts.
@@ -214,8 +247,9 @@ impl Chain {
     /// Room for what each stage delivers, in chain order; then the front of each stage's half is written and the stream is over.
     pub fn finish(&mut self, end: End, halves: [&[u8]; 2]) -> Answer {
         let shorter = halves[0].len().min(halves[1].len());
-        let End { delivered, format, clipped } = end;
-        let short = delivered.iter().map(Vec::len).find(|length| *length > shorter);
+        let held = self.hold_end(&end);
+        let short = end.lengths().find(|length| *length > shorter);
+        let End { delivered, format, clipped, .. } = end;
         let mut answer = Answer { halves: halves.map(<[u8]>::to_vec), counters: self.counters, ..Answer::default() };
         if let Some(length) = short {
             (answer.number, answer.needed) = (BUFFER_TOO_SMALL, 2 * length as u64);
@@ -227,13 +261,13 @@ impl Chain {
             (output.half, output.bytes) = (half as u8, bytes);
         }
         answer.sound = (!output.bytes.is_empty()).then_some(output);
-        answer.clipped = clipped;
+        (answer.clipped, answer.held) = (clipped, held);
         self.reset();
         answer
     }
 
     pub fn reset(&mut self) {
-        self.stages.iter_mut().for_each(|stages| source::reset(stages));
+        self.stages.iter_mut().chain(&mut self.own).for_each(|stages| source::reset(stages));
     }
 
     pub fn scratch_bytes(&mut self, length: u64) -> Result<u64, u16> {

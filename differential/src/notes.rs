@@ -16,7 +16,7 @@ pub fn is_note(kind: u16) -> bool {
 }
 
 /// The kind of each record and what follows it, of a recipe that opens.
-fn records(recipe: &[u8]) -> Vec<(u16, &[u8])> {
+pub fn records(recipe: &[u8]) -> Vec<(u16, &[u8])> {
     let (mut rest, mut all) = (recipe, vec![]);
     while let [low, high, kind_low, kind_high, after @ ..] = rest {
         let (contents, later) = after.split_at(usize::from(u16::from_le_bytes([*low, *high])) - 2);

@@ -139,11 +139,14 @@ fn next_resampler(random: &mut Random, format: &mut Format, designs: &mut Design
 
 type NextRecord = fn(&mut Random, &mut Format, &mut Designs) -> Vec<u8>;
 
+/// So many records, each of which suits the format that reaches it.
+fn records(random: &mut Random, mut format: Format, stages: usize, designs: &mut Designs, next: NextRecord) -> Vec<u8> {
+    (0..stages).flat_map(|_| next(random, &mut format, designs)).collect()
+}
+
 fn row(random: &mut Random, stages: usize, designs: &mut Designs, next: NextRecord) -> Recipe {
     let format = Format { rate: random.choice(&RATES), channels: 1 + random.below(2) as u16 };
-    let mut reaching = format;
-    let records: Vec<Vec<u8>> = (0..stages).map(|_| next(random, &mut reaching, designs)).collect();
-    Recipe { format, bytes: records.concat() }
+    Recipe { format, bytes: records(random, format, stages, designs, next) }
 }
 
 /// A recipe of so many stages that opens.
@@ -154,6 +157,11 @@ pub fn any(random: &mut Random, stages: usize, designs: &mut Designs) -> Recipe 
 /// The same, some half of them resamplers.
 pub fn resamplers(random: &mut Random, stages: usize, designs: &mut Designs) -> Recipe {
     row(random, stages, designs, next_resampler)
+}
+
+/// Records of any kinds that suit a format.
+pub fn any_from(random: &mut Random, format: Format, stages: usize, designs: &mut Designs) -> Vec<u8> {
+    records(random, format, stages, designs, next_record)
 }
 
 /// Each stage kind alone, at its settings' limits and in the middle.

@@ -3,6 +3,7 @@
 use crate::beforehand::{self, Room};
 use crate::clipping::held_back;
 use crate::ending::End;
+use crate::mixdown::Held;
 use crate::model::{self, Answer, Chain, Given};
 use crate::protocol::*;
 use crate::recipe::{Designs, Recipe};
@@ -50,6 +51,8 @@ pub struct Session {
     pub reached: BTreeMap<(u8, u16, u8), u64>,
     /// How many samples the answers of each command and outcome say were held back.
     pub clipped: BTreeMap<(u8, u8), u64>,
+    /// How many answers of each command were held to the source's own chain, and how far.
+    pub held: BTreeMap<(u8, Held), u64>,
 }
 
 fn first_chain() -> Chain {
@@ -87,6 +90,7 @@ impl Session {
             tally: Tally::default(),
             reached: BTreeMap::new(),
             clipped: BTreeMap::new(),
+            held: BTreeMap::new(),
         }
     }
 
@@ -257,6 +261,7 @@ impl Session {
     fn sounded(&mut self, command: u8, answer: &Answer) {
         self.number(answer.number);
         self.reach(command, answer.number, answer.outcome());
+        answer.held.iter().for_each(|held| *self.held.entry((command, *held)).or_default() += 1);
         let silence = Sound::default();
         let sound = answer.sound.as_ref().unwrap_or(&silence);
         let out = &mut self.answers;

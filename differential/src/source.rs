@@ -2,6 +2,7 @@
 
 use crate::clipping::{Beside, Reading};
 use crate::ending::Resampler;
+use crate::mixdown::Mixdown;
 use oracle::elements::{Biquad, BiquadKind, DcBlock, Gain, MonoToStereo, StereoToMono};
 use oracle::esp_core::error::{Error, Result};
 use oracle::esp_core::pcm::{PcmBlock, PcmFormat, SampleFormat};
@@ -11,7 +12,9 @@ use oracle::pipeline::{Element, Pipeline};
 pub enum Stage {
     Gain(Beside<Gain>),
     MonoToStereo(MonoToStereo),
-    StereoToMono(StereoToMono),
+    StereoToMono(Mixdown),
+    /// The Rust's own mixdown.
+    RoundedDown(StereoToMono),
     Resample(Resampler),
     DcBlock(Beside<DcBlock>),
     Biquad(Beside<Biquad>),
@@ -43,9 +46,17 @@ impl Stage {
             Stage::Gain(stage) => stage.drop_reading(),
             Stage::DcBlock(stage) => stage.drop_reading(),
             Stage::Biquad(stage) => stage.drop_reading(),
-            Stage::MonoToStereo(_) | Stage::StereoToMono(_) | Stage::Resample(_) | Stage::Undesigned(_) => (),
+            Stage::MonoToStereo(_) | Stage::StereoToMono(_) | Stage::RoundedDown(_) | Stage::Resample(_) | Stage::Undesigned(_) => (),
         }
         self
+    }
+
+    /// The same, with the Rust's own mixdown.
+    pub fn own(self) -> Self {
+        match self.unread() {
+            Stage::StereoToMono(_) => Stage::RoundedDown(StereoToMono),
+            stage => stage,
+        }
     }
 
     /// How many frames the stage delivers of the next so many, by counts alone.
@@ -63,7 +74,7 @@ impl Stage {
             Stage::DcBlock(stage) => stage.take_clipped(),
             Stage::Biquad(stage) => stage.take_clipped(),
             Stage::Undesigned(reading) => reading.take_clipped(),
-            Stage::MonoToStereo(_) | Stage::StereoToMono(_) | Stage::Resample(_) => 0,
+            Stage::MonoToStereo(_) | Stage::StereoToMono(_) | Stage::RoundedDown(_) | Stage::Resample(_) => 0,
         }
     }
 
@@ -72,6 +83,7 @@ impl Stage {
             Stage::Gain(stage) => stage,
             Stage::MonoToStereo(stage) => stage,
             Stage::StereoToMono(stage) => stage,
+            Stage::RoundedDown(stage) => stage,
             Stage::Resample(stage) => stage,
             Stage::DcBlock(stage) => stage,
             Stage::Biquad(stage) => stage,
@@ -191,6 +203,14 @@ pub struct Ran {
     pub counters: [u64; 2],
     pub clipped: u64,
     pub stages: Vec<Stage>,
+}
+
+impl Ran {
+    /// All but the bytes: the refusal, or the output's format, timestamp, half and length, and the counters.
+    pub fn but_bytes(&self) -> (Result<Option<(Sound, usize)>>, [u64; 2]) {
+        let without = |sound: &Sound| (Sound { bytes: vec![], ..*sound }, sound.bytes.len());
+        (self.answer.as_ref().map(|sound| sound.as_ref().map(without)).map_err(|error| *error), self.counters)
+    }
 }
 
 /// A block as its caller brings it.

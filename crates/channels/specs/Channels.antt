@@ -8,11 +8,11 @@ use lib.ListN.{length}
 use Rattle.pcm.specs.declared.Verdict.{Verdict}
 use Rattle.pcm.specs.declared.Verdict.the-variants.{Accepted, Refused}
 use Rattle.pcm.specs.declared.Error.the-variants.{InvalidGeometry}
-use Rattle.pcm.specs.Integers.{floorDiv}
 use Rattle.pcm.specs.Refusals.{ask, refusal, roomVerdict}
 use Rattle.pcm.specs.Samples.{held16, outside16, decode, encode}
 use Rattle.pcm.specs.Frames.{Frame, framesOf, bytesOf, written}
 use Rattle.counting.specs.Counting.{countOf}
+use Rattle.mean.specs.Mean.{mean}
 use Rattle.channels.specs.declared.MixAnswer.{MixAnswer}
 use Rattle.channels.specs.declared.MixAnswer.the-variants as answer
 use Rattle.channels.specs.declared.MixTold.{MixTold}
@@ -25,10 +25,7 @@ doubled (x ∷ f) = x ∷ x ∷ []
 unfoldable pub stereoBytes : List ℕ → List ℕ
 stereoBytes bytes = bytesOf (map doubled (framesOf 1 bytes))
 
--- stereo to mono is floor((l + r) / 2)
-unfoldable pub mean : ℤ → ℤ → ℤ
-mean l r = floorDiv (l +ℤ r) 2
-
+-- stereo to mono is the mean of both (document 02, Q-6)
 abbrev pub mixdown : Frame → Frame
 mixdown [] = []
 mixdown (l ∷ []) = []

@@ -1,11 +1,12 @@
 // Channel operations: mono to stereo, stereo to mono, and a saturating mix (elements/channels.rs).
 ghost use mathlib.Core.Path.{_≡_};
-ghost use Prim.Native.Nat.{_*_, _/_, _%_, _≤_};
+ghost use Prim.Native.Nat.{_+_, _*_, _/_, _%_, _≤_, _<_};
 ghost use lib.IntN.{_+ℤ_};
 ghost use lib.ListN.{length};
 ghost use Rattle.pcm.specs.Frames.{written};
-ghost use Rattle.pcm.specs.Samples.{decode, outside16};
-ghost use Rattle.channels.specs.Channels.{stereoBytes, monoBytes, mean, mixed, mixedBytes, mixClipped, mixVerdict, mixAnswer, afterMix, mixTold, toldOfMixing};
+ghost use Rattle.pcm.specs.Samples.{sampleAt, encode, decode, outside16};
+ghost use Rattle.mean.specs.Mean.{mean};
+ghost use Rattle.channels.specs.Channels.{stereoBytes, monoBytes, mixed, mixedBytes, mixClipped, mixVerdict, mixAnswer, afterMix, mixTold, toldOfMixing};
 use pcm::Error;
 use pcm::Verdict;
 
@@ -59,15 +60,42 @@ pub fn mono_to_stereo(input: &[u8], out: &mut [u8])
     }
 }
 
-// The mean of two samples, rounded down.
-fn mean_i16(l: i16, r: i16) -> i16
-    ensures { λ m. ⌜ m ≡ mean l r ⌝ }
+// The mean of the frame at byte i.
+fn mean_at(s: &[u8], i: usize) -> i16
+    requires { ⌜ i + 3 < length (now s) ⌝ }
+    ensures { λ m. ⌜ m ≡ mean (sampleAt (now (s .entry)) i) (sampleAt (now (s .entry)) (i + 2)) ⌝ }
 {
-    (((l as i32) + (r as i32)) >> 1) as i16
+    mean::mean_i16(pcm::get_i16(s, i), pcm::get_i16(s, i + 2))
 }
 
-// Each stereo frame of input as its mean, at the front of out.
-pub fn stereo_to_mono(input: &[u8], out: &mut [u8])
+// The means of sixteen frames.
+fn means(s: &[u8]) -> [i16; 16]
+    requires { ⌜ length (now s) ≡ 64 ⌝ }
+    ensures { λ a. ⌜ encode a ≡ monoBytes (now (s .entry)) ⌝ }
+{
+    let mut a = [0i16; 16];
+    let mut k: usize = 0;
+    while k < 16 {
+        a[k] = mean_at(s, 4 * k);
+        k += 1;
+    }
+    a
+}
+
+// Sixteen samples at the front of out.
+fn put_means(a: [i16; 16], out: &mut [u8])
+    requires { ⌜ 32 ≤ length (now out) ⌝ }
+    ensures { λ _. ⌜ now (out .exit) ≡ written (encode a) (now (out .entry)) ⌝ }
+{
+    let mut k: usize = 0;
+    while k < 16 {
+        pcm::put_i16(out, 2 * k, a[k]);
+        k += 1;
+    }
+}
+
+// Each stereo frame of input as its mean, at the front of out, one by one.
+fn mix_down_each(input: &[u8], out: &mut [u8])
     requires { ⌜ (length (now input) % 4 ≡ 0) × (length (now input) / 2 ≤ length (now out)) ⌝ }
     ensures { λ _. ⌜ now (out .exit) ≡ written (monoBytes (now (input .entry))) (now (out .entry)) ⌝ }
 {
@@ -75,14 +103,27 @@ pub fn stereo_to_mono(input: &[u8], out: &mut [u8])
     let mut i: usize = 0;
     let mut j: usize = 0;
     while i < n {
-        pcm::put_i16(
-            out,
-            j,
-            mean_i16(pcm::get_i16(input, i), pcm::get_i16(input, i + 2)),
-        );
+        pcm::put_i16(out, j, mean_at(input, i));
         i += 4;
         j += 2;
     }
+}
+
+// Each stereo frame of input as its mean, at the front of out: sixteen at a time by way of an array, so that the compiler takes eight at
+// once, then the rest.
+pub fn stereo_to_mono(input: &[u8], out: &mut [u8])
+    requires { ⌜ (length (now input) % 4 ≡ 0) × (length (now input) / 2 ≤ length (now out)) ⌝ }
+    ensures { λ _. ⌜ now (out .exit) ≡ written (monoBytes (now (input .entry))) (now (out .entry)) ⌝ }
+{
+    let n = input.len();
+    let mut i: usize = 0;
+    let mut j: usize = 0;
+    while n - i >= 64 {
+        put_means(means(&input[i..i + 64]), &mut out[j..]);
+        i += 64;
+        j += 32;
+    }
+    mix_down_each(&input[i..], &mut out[j..]);
 }
 
 // The sum of two samples, held within the sample range.

@@ -50,17 +50,17 @@ fn next(x: u32) -> u32 {
     ((x as u64 * 1103515245 + 12345) % 2147483648) as u32
 }
 
-fn middle_byte(x: u32) -> u8 {
-    (x / 65536 % 256) as u8
+fn even_byte(x: u32) -> u8 {
+    (x / 65536 % 256 / 2 * 2) as u8
 }
 
-// Noise, the same each time.
+// Noise of even samples, the same each time. The source's stereo to mono, which rounds down, makes the same of it.
 fn fill(sound: &mut [u8]) {
     let mut x: u32 = 1;
     let mut i: usize = 0;
     while i < sound.len() {
         x = next(x);
-        sound[i] = middle_byte(x);
+        sound[i] = even_byte(x);
         i += 1;
     }
 }

@@ -5,13 +5,14 @@ use mathlib.Core.List.{List, [], _∷_, map}
 use Prim.Native.Nat.{ℕ, _+_, _-_, _*_, _^_}
 use lib.IntN.{pos}
 use lib.Ieee.{Float, fin, neg, ofInt, add, sub, mul, round}
-use Rattle.pcm.specs.Integers.{−}
+use Rattle.pcm.specs.Integers.{−, nearestDiv}
 use Rattle.pcm.specs.Samples.{held}
 use Rattle.floats.specs.Rounding.{roundSat, rounded16, halfUp}
 use Rattle.pcm.specs.Frames.{Frame}
 use Rattle.filters.specs.Filters.{atRest, filtered}
 use Rattle.gain.specs.Gain.{heldFactor, scaled}
-use Rattle.channels.specs.Channels.{mixdown, mean, mixed}
+use Rattle.mean.specs.Mean.{mean}
+use Rattle.channels.specs.Channels.{mixdown, mixed}
 use Rattle.dc_block.specs.DcBlock.{dcTick}
 use Rattle.rates.specs.Divisor.{gcd, largestDivisor}
 use Rattle.resample.specs.Value.{interpolated}
@@ -52,9 +53,9 @@ c : heldFactor (pos 33554433) ≡ pos 33554432
 unfolding heldFactor held
 c = refl
 
--- (d) mono of (1, 2) is 1, of (-1, -2) is -2
-d : map mixdown ((pos 1 ∷ pos 2 ∷ []) ∷ (− 1 ∷ − 2 ∷ []) ∷ []) ≡ (pos 1 ∷ []) ∷ (− 2 ∷ []) ∷ []
-unfolding mean
+-- (d) mono of (1, 2) is 2 since document 02's Q-6, of (-1, -2) is -2
+d : map mixdown ((pos 1 ∷ pos 2 ∷ []) ∷ (− 1 ∷ − 2 ∷ []) ∷ []) ≡ (pos 2 ∷ []) ∷ (− 2 ∷ []) ∷ []
+unfolding mean nearestDiv
 d = refl
 
 -- (e) mix 32,767 and 1: 32,767

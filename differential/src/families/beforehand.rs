@@ -97,8 +97,8 @@ pub fn of_chains(session: &mut Session, random: &mut Random) {
 type Row = (Recipe, &'static [usize]);
 
 /// The records of the channel stages.
-const TO_STEREO: &[u8] = &[2, 0, 2, 0];
-const TO_MONO: &[u8] = &[2, 0, 3, 0];
+pub const TO_STEREO: &[u8] = &[2, 0, 2, 0];
+pub const TO_MONO: &[u8] = &[2, 0, 3, 0];
 
 /// Resamplers in a row, and other stages after them.
 fn chain(rate: u32, channels: u16, resamplers: &[[u32; 2]], others: &[&[u8]]) -> Recipe {

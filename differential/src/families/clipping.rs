@@ -9,11 +9,11 @@ use crate::source::{Block, Format};
 use oracle::elements::{BiquadKind, DcBlock};
 use std::f32::consts::TAU;
 
-fn bytes_of(samples: &[i16]) -> Vec<u8> {
+pub fn bytes_of(samples: &[i16]) -> Vec<u8> {
     samples.iter().flat_map(|sample| sample.to_le_bytes()).collect()
 }
 
-fn open(session: &mut Session, rate: u32, channels: u16, records: &[Vec<u8>]) {
+pub fn open(session: &mut Session, rate: u32, channels: u16, records: &[Vec<u8>]) {
     assert_eq!(session.open(Format { rate, channels }, &records.concat()), 0, "a recipe that does not open");
 }
 
@@ -109,7 +109,7 @@ pub fn rounding(session: &mut Session, _: &mut Random) {
 }
 
 /// A biquad by its five coefficients, which need be no kind's.
-fn biquad(rate: u32, coefficients: [f32; 5]) -> Vec<u8> {
+pub fn biquad(rate: u32, coefficients: [f32; 5]) -> Vec<u8> {
     let [b0, b1, b2, a1, a2] = coefficients.map(f32::to_bits);
     record(recipe::BIQUAD, &[rate, b0, b1, b2, a1, a2])
 }

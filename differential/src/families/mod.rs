@@ -7,6 +7,7 @@ mod cuttings;
 mod divisors;
 mod ends;
 mod finishes;
+mod mixdowns;
 pub mod notes;
 mod numbers;
 mod recipes;
@@ -24,7 +25,7 @@ use crate::source::Block;
 type Family = (&'static str, fn(&mut Session, &mut Random));
 
 /// The same cases whatever the seed.
-const FIXED: [Family; 19] = [
+const FIXED: [Family; 23] = [
     ("short recipes", recipes::short),
     ("record lengths", recipes::lengths),
     ("limits of settings", recipes::limits),
@@ -44,10 +45,14 @@ const FIXED: [Family; 19] = [
     ("all samples at many gains", samples::gains),
     ("end marks", ends::every),
     ("limits of numbers", numbers::limits),
+    ("mixdowns of samples near 0 and at the ends", mixdowns::pairs),
+    ("mixdowns of every left sample", mixdowns::lefts),
+    ("mixdowns of every length", mixdowns::lengths),
+    ("mixdowns after odd sums", mixdowns::after_odd),
 ];
 
 /// Other cases with every seed.
-const SEEDED: [Family; 26] = [
+const SEEDED: [Family; 29] = [
     ("stages alone", chains::lone),
     ("chains", chains::any),
     ("chains, long blocks", chains::long_blocks),
@@ -74,6 +79,9 @@ const SEEDED: [Family; 26] = [
     ("clipped first and last frames", clipping::waiting),
     ("clipped under all cuttings", clipping::cut),
     ("clipped between refusals", clipping::refused),
+    ("mixdowns of every left sample with any right", mixdowns::any_rights),
+    ("mixdowns in chains, even sums", mixdowns::even),
+    ("mixdowns in chains, any sums", mixdowns::any),
 ];
 
 pub fn run(session: &mut Session, seed: u64, fixed: bool, timed: bool) {

@@ -2,7 +2,7 @@
 
 use super::{
     Random, Session, ample_block, ample_finish, ample_half, any_frames, beforehand, block_over, chains, clipping, divisors, ends,
-    finish_over, finishes, notes, numbers, open_any, sound_of,
+    finish_over, finishes, mixdowns, notes, numbers, open_any, sound_of,
 };
 use crate::protocol::{BLOCK, BLOCK_ROOM, COMMANDS, END_MARK, FINISH, FINISH_ROOM, MIX, ROUND_SAT16, SAT16};
 use crate::recipe;
@@ -24,6 +24,7 @@ pub fn gather(session: &mut Session, random: &mut Random) {
     damaged(session, random);
     numbers::few(session, random);
     beforehand::few(session, random);
+    mixdowns::few(session, random);
     session.script.push(END_MARK);
     session.answers.push(END_MARK);
     check(session, &sounded);

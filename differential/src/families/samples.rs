@@ -10,7 +10,7 @@ fn all_samples() -> Vec<i16> {
 }
 
 /// In blocks of 8,192 frames.
-fn feed(session: &mut Session, random: &mut Random, samples: &[i16]) {
+pub fn feed(session: &mut Session, random: &mut Random, samples: &[i16]) {
     for block in samples.chunks(MOST_FRAMES * session.chain.format.frame() / 2) {
         let sound: Vec<u8> = block.iter().flat_map(|sample| sample.to_le_bytes()).collect();
         ample_block(session, random, &sound);

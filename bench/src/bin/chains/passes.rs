@@ -39,12 +39,12 @@ impl Tally {
     }
 }
 
-/// Noise, the same as `speed` makes.
+/// Noise of even samples, the same as `speed` makes: where every l + r is even the source's stereo to mono takes the mean that ours does.
 fn fill(sound: &mut [u8]) {
     let mut x = 1u64;
     for byte in sound {
         x = (x * 1_103_515_245 + 12_345) % (1 << 31);
-        *byte = (x >> 16) as u8;
+        *byte = (x >> 16) as u8 & !1;
     }
 }
 

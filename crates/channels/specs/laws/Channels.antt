@@ -1,19 +1,15 @@
--- One frame more, lengths, and samples of samples. Assumes nothing.
+-- One frame more, streams joined, lengths, and samples of samples. Assumes nothing.
 use mathlib.Core.Path.{_≡_, refl, ap, _∙_}
-use mathlib.Core.List.{List, [], _∷_, map}
-use Prim.Native.Nat.{ℕ, suc, _*_, _/_, _%_, _≤_, _<_}
-use native.Mathlib.Decide.{decLt}
+use mathlib.Core.List.{List, [], _∷_, _++_, map}
+use Prim.Native.Nat.{ℕ, _*_, _/_, _%_}
 use native.Mathlib.Omega.{arith}
-use lib.IntN.{ℤ, pos, negsuc, subℕ}
 use lib.ListN.{length}
-use mir.Syntax.{w16}
-use mir.Val.{SFits}
-use Rattle.pcm.specs.Integers.{floorDiv}
-use Rattle.pcm.specs.laws.Integers.{sub-lt, sub-ge}
 use Rattle.pcm.specs.Samples.{sampleOf, lowOf, highOf}
-use Rattle.pcm.specs.Frames.{Frame, FrameOf, bytesOf}
-use Rattle.pcm.specs.laws.Frames.{frames-mono, frames-stereo, frames-nil}
-use Rattle.channels.specs.Channels.{doubled, stereoBytes, mean, mixdown, monoBytes}
+use Rattle.pcm.specs.Frames.{Frame, FrameOf, framesOf, bytesOf}
+use Rattle.pcm.specs.laws.Frames.{frames-mono, frames-stereo, frames-nil, frames-append, map-append, bytes-append}
+use Rattle.mean.specs.Mean.{mean}
+use Rattle.mean.specs.Theorems.{mean-fits}
+use Rattle.channels.specs.Channels.{doubled, stereoBytes, mixdown, monoBytes}
 
 -- ---- one frame more
 module _ (a b : ℕ) (rest : List ℕ) where
@@ -33,6 +29,13 @@ pub mono-nil : monoBytes [] ≡ []
 unfolding monoBytes bytesOf
 mono-nil = ap (λ (fs : List Frame). bytesOf (map mixdown fs)) (frames-nil 2)
 
+-- ---- streams joined
+pub mono-append : (x y : List ℕ) → length x % 4 ≡ 0 → monoBytes (x ++ y) ≡ monoBytes x ++ monoBytes y
+unfolding monoBytes
+mono-append x y e =
+    ap (λ (fs : List Frame). bytesOf (map mixdown fs)) (frames-append 2 x y (omega arith) e)
+    ∙ ap bytesOf (map-append mixdown (framesOf 2 x) (framesOf 2 y)) ∙ bytes-append (map mixdown (framesOf 2 x)) (map mixdown (framesOf 2 y))
+
 -- ---- lengths
 pub length-stereo : (bytes : List ℕ) → length bytes % 2 ≡ 0 → length (stereoBytes bytes) ≡ length bytes * 2
 length-stereo [] e = ap length stereo-nil
@@ -47,20 +50,6 @@ length-mono (a ∷ b ∷ c ∷ []) e = absurd (let z : ⊥ = omega (arith, e) in
 length-mono (a ∷ b ∷ c ∷ d ∷ rest) e = ap length (mono-next a b rest c d) ∙ omega (arith, length-mono rest (omega (arith, e)))
 
 -- ---- samples of samples
-mean-mixed : (a b : ℕ) → SFits w16 (pos a) → SFits w16 (negsuc b) → SFits w16 (floorDiv (subℕ a (suc b)) 2)
-mean-mixed a b f g = go (decLt a (suc b))
-  where
-    go : Dec (a < suc b) → SFits w16 (floorDiv (subℕ a (suc b)) 2)
-    go (yes l) = rw (sub-lt a (suc b) l) (record { sfits = omega (arith, g .sfits) })
-    go (no l) = let h : suc b ≤ a = omega arith in rw (sub-ge a (suc b) h) (record { sfits = omega (arith, f .sfits) })
-
-pub mean-fits : (l r : ℤ) → SFits w16 l → SFits w16 r → SFits w16 (mean l r)
-unfolding mean
-mean-fits (pos a) (pos b) f g = record { sfits = omega (arith, f .sfits, g .sfits) }
-mean-fits (pos a) (negsuc b) f g = mean-mixed a b f g
-mean-fits (negsuc a) (pos b) f g = mean-mixed b a g f
-mean-fits (negsuc a) (negsuc b) f g = record { sfits = omega (arith, f .sfits, g .sfits) }
-
 pub doubled-frame : (f : Frame) → FrameOf 1 f → FrameOf 2 (doubled f)
 doubled-frame [] h = absurd (let z : ⊥ = omega (arith, h .size) in z)
 doubled-frame (x ∷ f) h = record { size = refl; fits = (h .fits .0, (h .fits .0, tt)) }

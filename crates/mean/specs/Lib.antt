@@ -1,0 +1,3 @@
+pub mod Mean
+pub mod Theorems
+pub mod laws
