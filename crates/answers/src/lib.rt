@@ -1,11 +1,12 @@
 // What a block or finish call answers: its numbers and values, the counters, the halves in turn, and the output as a part of one (pipeline.rs).
+#![tactic(auto)]
 ghost use Rattle.std.specs.Prelude.{◌≡◌, ◌≤◌, ◌<◌, length};
 ghost use Rattle.answers.specs.Answers.{counted_up, last_half, output_answer, shorter_of, front_of, output_of, half_number, silent_told, answer_told, scratch_told, counted_if, unstaged, next_stage};
 ghost use Rattle.answers.specs.FinishAnswers.{finish_answer, silent_finish_told, finish_told};
 
 use pcm::{Error, PcmFormat};
 
-#[derive(Drop)]
+#[derive(Clone, Copy)]
 pub enum Half {
     A,
     B,
@@ -24,7 +25,7 @@ impl Half {
 }
 
 // `clipped` is how many samples the stages held back (document 02, Q-2).
-#[derive(Drop)]
+#[derive(Clone, Copy)]
 pub enum Answer {
     Output {
         format: PcmFormat,
@@ -42,7 +43,7 @@ pub enum Answer {
 // Number and values of an answer. Outcome: 0 refused, 1 sound, 2 nothing yet; what follows it is zero but for sound, and `clipped` but for
 // a refusal.
 #[repr(C)]
-#[derive(Drop)]
+#[derive(Clone, Copy)]
 pub struct Told {
     pub number: u16,
     pub outcome: u8,
@@ -102,7 +103,7 @@ impl Answer {
 }
 
 // What a finish answers: as a block, with no timestamp.
-#[derive(Drop)]
+#[derive(Clone, Copy)]
 pub enum FinishAnswer {
     Output {
         format: PcmFormat,
@@ -118,7 +119,7 @@ pub enum FinishAnswer {
 
 // Number and values of it, as of a block.
 #[repr(C)]
-#[derive(Drop)]
+#[derive(Clone, Copy)]
 pub struct FinishTold {
     pub number: u16,
     pub outcome: u8,
@@ -173,7 +174,7 @@ impl FinishAnswer {
     }
 }
 
-#[derive(Drop)]
+#[derive(Clone, Copy)]
 pub enum Scratch {
     Bytes(usize),
     Refused(Error),

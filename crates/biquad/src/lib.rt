@@ -1,4 +1,5 @@
 // Second-order filters in direct form I (biquad.rs).
+#![tactic(auto)]
 ghost use Rattle.std.specs.Prelude.{◌≡◌};
 ghost use Rattle.filters.specs.Filters.{FilterBlock, FilteredBlock};
 ghost use Rattle.cookbook.specs.Cookbook.{identity};
@@ -8,7 +9,7 @@ use cookbook::Coefficients;
 use filters::{FilterMemory, Filtered};
 
 // The coefficients' bits, as they came.
-#[derive(Drop)]
+#[derive(Clone, Copy)]
 pub struct CoefficientBits {
     pub b0: u32,
     pub b1: u32,
@@ -18,7 +19,7 @@ pub struct CoefficientBits {
 }
 
 // A filter for one rate.
-#[derive(Drop)]
+#[derive(Clone, Copy)]
 pub struct Biquad {
     pub rate: u32,
     pub coefficients: Coefficients,

@@ -1,4 +1,5 @@
 // The block call of a chain (pipeline.rs): room asked first, then the stages in turn over two lent halves.
+#![tactic(auto)]
 ghost use Rattle.std.specs.Prelude.{◌≡◌};
 ghost use Rattle.pcm.specs.Refusals.{valued};
 ghost use Rattle.pcm.specs.declared.Verdict.TheVariants.{Accepted};
@@ -15,7 +16,7 @@ use pipeline::Pipeline;
 use questions::{Question, Walk};
 use stage::Stage;
 
-#[derive(Drop)]
+#[derive(Clone, Copy)]
 pub struct Outcome {
     pub chain: Pipeline,
     pub answer: Answer,

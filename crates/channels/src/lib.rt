@@ -1,4 +1,5 @@
 // Channel operations: mono to stereo, stereo to mono, and a saturating mix (elements/channels.rs).
+#![tactic(auto)]
 ghost use Rattle.std.specs.Prelude.{◌≡◌, ◌+◌, ◌*◌, ◌/◌, ◌%◌, ◌≤◌, ◌<◌, ◌+ℤ◌, length};
 ghost use Rattle.pcm.specs.Frames.{written};
 ghost use Rattle.pcm.specs.Samples.{sample_at, encode, decode, outside16};
@@ -8,14 +9,14 @@ ghost use Rattle.channels.specs.Channels.{stereo_bytes, mono_bytes, mixed, mixed
 use pcm::{Error, Verdict};
 
 // What a mix comes to: how many sums were held back, or why it is refused.
-#[derive(Drop)]
+#[derive(Clone, Copy)]
 pub enum MixAnswer {
     Mixed { clipped: usize },
     Refused(Error),
 }
 
 // The paper's number, needed and count of a MixAnswer.
-#[derive(Drop)]
+#[derive(Clone, Copy)]
 pub struct MixTold {
     pub number: u16,
     pub needed: usize,

@@ -1,4 +1,5 @@
 // A biquad's coefficients, by the Audio EQ Cookbook (biquad.rs).
+#![tactic(auto)]
 ghost use Rattle.std.specs.Prelude.{◌≡◌, ◌&&◌, if◌then◌else◌};
 ghost use Rattle.std.specs.Float.Ieee.{lt, le};
 ghost use Rattle.pcm.specs.declared.Error.TheVariants.{InvalidFormat};
@@ -7,7 +8,7 @@ ghost use Rattle.cookbook.specs.Cookbook.{identity, alpha_of, design_settings_al
 use pcm::Error;
 
 // The response to design.
-#[derive(Drop)]
+#[derive(Clone, Copy)]
 pub enum BiquadKind {
     LowPass { f0: f32, q: f32 },
     HighPass { f0: f32, q: f32 },
@@ -16,7 +17,7 @@ pub enum BiquadKind {
 }
 
 // Divided by a0.
-#[derive(Drop)]
+#[derive(Clone, Copy)]
 pub struct Coefficients {
     pub b0: f32,
     pub b1: f32,
@@ -26,7 +27,7 @@ pub struct Coefficients {
 }
 
 // The cookbook's six, before they are divided by a0.
-#[derive(Drop)]
+#[derive(Clone, Copy)]
 pub struct Section {
     pub b0: f64,
     pub b1: f64,
@@ -36,14 +37,14 @@ pub struct Section {
     pub a2: f64,
 }
 
-#[derive(Drop)]
+#[derive(Clone, Copy)]
 pub enum DesignAnswer {
     Designed(Coefficients),
     Refused(Error),
 }
 
 // 0 and the coefficients, or a refusal's number and five times 0.
-#[derive(Drop)]
+#[derive(Clone, Copy)]
 pub struct DesignTold {
     pub number: u16,
     pub coefficients: Coefficients,

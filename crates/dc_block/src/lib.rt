@@ -1,4 +1,5 @@
 // Removes the offset of a signal: a one-pole high-pass (dc_block.rs).
+#![tactic(auto)]
 ghost use Rattle.std.specs.Prelude.{◌≡◌, true, pos};
 ghost use Rattle.std.specs.Float.{binary32};
 ghost use Rattle.std.specs.Float.Ieee.{of_bits, of_int};
@@ -13,14 +14,14 @@ use pcm::Error;
 // 2π as a binary32.
 const TAU: f32 = 6.2831855;
 
-#[derive(Drop)]
+#[derive(Clone, Copy)]
 pub enum PoleAnswer {
     Pole(f32),
     Refused(Error),
 }
 
 // 0 and the pole, or a refusal's number and 0.
-#[derive(Drop)]
+#[derive(Clone, Copy)]
 pub struct PoleTold {
     pub number: u16,
     pub pole: f32,
@@ -41,7 +42,7 @@ impl PoleAnswer {
 }
 
 // The corner's bits, as they came, and the pole, +0 until the filter is tuned to a rate.
-#[derive(Drop)]
+#[derive(Clone, Copy)]
 pub struct DcBlock {
     pub corner: u32,
     pub r: f32,

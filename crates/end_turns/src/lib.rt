@@ -1,4 +1,5 @@
 // The turn of a stage that ends (document 02, Q-1): what it makes of the frames that arrive, then its last frame.
+#![tactic(auto)]
 ghost use Rattle.std.specs.Prelude.{[], ◌∷◌, ◌*◌, ◌≤◌, ◌<◌, length, take};
 ghost use Rattle.pcm.specs.Frames.{FramesOf, frames_of};
 ghost use Rattle.turns.specs.Turns.{Takes, Makes};
@@ -151,7 +152,7 @@ fn put_last(channels: usize, kind: StageKind, memory: SoundMemory, out: &mut [u8
 }
 
 // How many bytes a stage that ends delivers, and how many samples it held back.
-#[derive(Drop)]
+#[derive(Clone, Copy)]
 pub struct EndApplied {
     pub len: usize,
     pub clipped: usize,

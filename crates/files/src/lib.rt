@@ -1,8 +1,9 @@
 // Files, for the programs.
+#![tactic(auto)]
 ghost use Rattle.io.specs.Counts.{IsPrefixLen};
 
 // How many bytes of a file stand at the front of a buffer. Where it could not be read it is not ok, and standard error says why.
-#[derive(Drop)]
+#[derive(Clone, Copy)]
 pub struct FileRead {
     pub ok: bool,
     pub count: usize,

@@ -1,9 +1,10 @@
 // What a filter keeps between samples (dc_block.rs, biquad.rs).
+#![tactic(auto)]
 ghost use Rattle.std.specs.Prelude.{◌≡◌};
 ghost use Rattle.filters.specs.Filters.{memory_at_rest};
 
 // Two earlier inputs and two earlier outputs for each channel; the outputs are kept unrounded.
-#[derive(Drop)]
+#[derive(Clone, Copy)]
 pub struct FilterMemory {
     pub x1: [f32; 2],
     pub x2: [f32; 2],
@@ -12,7 +13,7 @@ pub struct FilterMemory {
 }
 
 // What a filter answers of a block: its memory afterwards, and how many samples it held back.
-#[derive(Drop)]
+#[derive(Clone, Copy)]
 pub struct Filtered {
     pub memory: FilterMemory,
     pub clipped: usize,

@@ -17,14 +17,14 @@ same→not_nan nan h = absurd (subst T (sym nan_differs ∙ h) tt)
 same→not_nan (inf s) h = tt
 same→not_nan (fin s m e) h = tt
 
-is_nan : (x : Float) → is_nan x ≡ true → x ≡ nan
+is_nan_lem : (x : Float) → is_nan x ≡ true → x ≡ nan
 unfolding is_nan
-is_nan nan h = refl
-is_nan (inf s) h = absurd (subst T (sym h) tt)
-is_nan (fin s m e) h = absurd (subst T (sym h) tt)
+is_nan_lem nan h = refl
+is_nan_lem (inf s) h = absurd (subst T (sym h) tt)
+is_nan_lem (fin s m e) h = absurd (subst T (sym h) tt)
 
 pub above→nan : (n : ℕ) → 0x7f80_0000 < n % 0x8000_0000 → of_bits binary32 n ≡ nan
-above→nan n h = is_nan (of_bits binary32 n) (sym (nan_bits_is binary32 n) ∙ nan_bits_above binary32 n ∙ lt-ltb _ _ h)
+above→nan n h = is_nan_lem (of_bits binary32 n) (sym (nan_bits_is binary32 n) ∙ nan_bits_above binary32 n ∙ lt-ltb _ _ h)
 
 pub below→not_nan : (n : ℕ) → n % 0x8000_0000 ≤ 0x7f80_0000 → T (not (nan_bits binary32 n))
 below→not_nan n h = subst (λ (b : Bool). T (not b)) (sym (nan_bits_above binary32 n ∙ le-ltb _ _ h)) tt

@@ -59,6 +59,7 @@ unfolding fits
 down_within s zero e f = one (up e) (down e) (up_pos e) (eqb→eq (up e * down e) 1 f)
   where
     one : (u d : ℕ) → 0 < u → u * d ≡ 1 → d ≤ 2 ^ 149
+    one zero d h k = elim h [ ]
     one (suc u) d h k = le_trans (at_most u d k) (lit≤ tt)
       where
         at_most : (u d : ℕ) → suc u * d ≡ 1 → d ≤ 1

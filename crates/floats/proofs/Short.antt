@@ -11,7 +11,7 @@ use lib.Pow.{pow-add, pow_pos, pow_mono, pow-lt, shl_lt}
 use lib.Ieee.{Float, nan, inf, fin, binary32, binary64, up, down, size, odd, units, round, of_fields, of_bits, to_bits, fits, is_nan, nan_bits}
 use lib.Ieee.Bits.{of_bits-to_bits, to_bits-lt, nan_bits_is}
 use lib.Ieee.Digits.{size-lt, size-le}
-use lib.Ieee.Fits.{down_pos, round_is, round_fits, nan-fits, inf-fits, core}
+use lib.Ieee.Fits.{down_pos, round_is, round-fits, nan-fits, inf-fits, core}
 use lib.Ieee.Exact.{HasValue, odd_sign, units_val}
 use lib.Ieee.Nearest.{closest, closest_same}
 use lib.Ieee.Scale.{round_same}
@@ -281,7 +281,7 @@ pub narrowed_fits : (x : Float) → T (fits binary32 (narrowed x))
 unfolding narrowed
 narrowed_fits nan = nan-fits binary32
 narrowed_fits (inf s) = inf-fits binary32 s
-narrowed_fits (fin s m e) = round_fits binary32 s (m * up e) (down e)
+narrowed_fits (fin s m e) = round-fits binary32 s (m * up e) (down e)
 
 odd_number : (d : ℕ) (s : Bool) (q k l : ℕ) → T (not (is_nan (odd d s q k l)))
 unfolding odd is_nan

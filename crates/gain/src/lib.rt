@@ -1,4 +1,5 @@
 // `Gain`: fixed-point Q15 gain with rounding and saturation (elements/gain.rs).
+#![tactic(auto)]
 ghost use Rattle.std.specs.Prelude.{◌≡◌, min, ◌≤◌, ◌%◌, pos, neg_ℤ, nat_abs, ◌-ℤ◌, ◌*ℤ◌, length};
 ghost use Rattle.pcm.specs.Integers.{−, floor_div};
 ghost use Rattle.pcm.specs.Samples.{decode, held16, outside};
@@ -7,7 +8,7 @@ ghost use Rattle.counting.specs.Counting.{count_of};
 ghost use Rattle.gain.specs.Clipping.{clipped_in};
 ghost use Rattle.gain.specs.Gain.{factor_allowed, held_factor, linear_factor, scaled, scaled_bytes, unity};
 
-#[derive(Drop)]
+#[derive(Clone, Copy)]
 pub struct Gain {
     pub q15: i32,
 }

@@ -120,17 +120,17 @@ module _ (l r : ℤ) (f : SFits w16 l) (g : SFits w16 r) where
   half_up_lem = up (l +ℤ r) (sum_range l r f g)
 
   pub plus_one_fits : SFits w32 (l +ℤ r +ℤ pos 1)
-  plus_one_fits = half_up.wide
+  plus_one_fits = half_up_lem.wide
 
   pub up_fits : SFits w16 (mean_up l r)
-  up_fits = half_up.fits
+  up_fits = half_up_lem.fits
 
   pub mean_below : goes_down l r ≡ true → mean_up l r -ℤ pos 1 ≡ mean l r
   unfolding mean
-  mean_below e = let t = both_odd (nat_abs (l +ℤ r)) (nat_abs (mean_up l r)) e in half_up.odd t.0 t.1
+  mean_below e = let t = both_odd (nat_abs (l +ℤ r)) (nat_abs (mean_up l r)) e in half_up_lem.odd t.0 t.1
 
   pub mean_above : goes_down l r ≡ false → mean_up l r ≡ mean l r
   unfolding mean
   mean_above e =
-      by_parity (nat_abs (l +ℤ r)) half_up.whole
-      (λ (o : nat_abs (l +ℤ r) % 2 ≡ 1). by_parity (nat_abs (mean_up l r)) (half_up.even o) (λ k. absurd (true_false (rw (o, k) at e))))
+      by_parity (nat_abs (l +ℤ r)) half_up_lem.whole
+      (λ (o : nat_abs (l +ℤ r) % 2 ≡ 1). by_parity (nat_abs (mean_up l r)) (half_up_lem.even o) (λ k. absurd (true_false (rw (o, k) at e))))

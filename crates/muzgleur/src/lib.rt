@@ -1,4 +1,5 @@
 // The static library for programs in C and Rust: the proved calls on a chain that the caller keeps as plain words. None requires anything of its caller.
+#![tactic(auto)]
 ghost use Rattle.std.specs.Prelude.{◌≡◌};
 ghost use Rattle.pipeline.specs.Opening.{open_call};
 ghost use Rattle.pipeline.specs.Reset.{output_format, reset_call};
@@ -18,7 +19,7 @@ use room::RoomTold;
 
 // In each, `number` is 0 or the refusal's, and a value that there is not is 0.
 #[repr(C)]
-#[derive(Drop)]
+#[derive(Clone, Copy)]
 pub struct CounterResult {
     pub number: u16,
     pub blocks: u64,
@@ -26,14 +27,14 @@ pub struct CounterResult {
 }
 
 #[repr(C)]
-#[derive(Drop)]
+#[derive(Clone, Copy)]
 pub struct Format {
     pub rate: u32,
     pub channels: u16,
 }
 
 #[repr(C)]
-#[derive(Drop)]
+#[derive(Clone, Copy)]
 pub struct ScratchResult {
     pub number: u16,
     pub value: usize,

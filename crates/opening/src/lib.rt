@@ -1,4 +1,5 @@
 // The questions of a record that was read whole, and the stage that it opens.
+#![tactic(auto)]
 ghost use Rattle.std.specs.Prelude.{◌≡◌, true, ◌-◌};
 ghost use Rattle.pcm.specs.Formats.{rate_allowed};
 ghost use Rattle.rates.specs.Rates.{rates_allowed, reduced};
@@ -12,7 +13,7 @@ use rates::{LinearResampler, NewResampler};
 use recipe::Record;
 use stage::{Stage, StageKind};
 
-#[derive(Drop)]
+#[derive(Clone, Copy)]
 pub enum StageAnswer {
     Stage(StageKind),
     Refused(Error),

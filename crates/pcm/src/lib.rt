@@ -1,4 +1,5 @@
 // Formats, refusals, limits and 16-bit samples, low byte first (lib.rs, elements/mod.rs).
+#![tactic(auto)]
 ghost use Rattle.std.specs.Prelude.{◌≡◌, ◌+◌, ◌<◌, length};
 ghost use Rattle.pcm.specs.Formats.{rate_allowed, format_allowed, frame_bytes};
 ghost use Rattle.pcm.specs.Refusals.{refusal, number_of, room_verdict};
@@ -11,7 +12,7 @@ pub const MAX_RATE: u32 = 384000;
 pub const MAX_FRAMES: usize = 8192;
 
 // How sound is laid out: frames a second, and samples a frame.
-#[derive(Drop)]
+#[derive(Clone, Copy)]
 pub struct PcmFormat {
     pub rate: u32,
     pub channels: u16,
@@ -50,7 +51,7 @@ impl PcmFormat {
 }
 
 // Why a call is refused. The first four are the source's.
-#[derive(Drop)]
+#[derive(Clone, Copy)]
 pub enum Error {
     InvalidFormat,
     Unsupported,
@@ -106,7 +107,7 @@ impl Error {
 }
 
 // What a call's questions come to.
-#[derive(Drop)]
+#[derive(Clone, Copy)]
 pub enum Verdict {
     Accepted,
     Refused(Error),
@@ -135,7 +136,7 @@ pub fn require_room(out: &[u8], needed: usize) -> Verdict
 }
 
 // A sample, and whether it was held back.
-#[derive(Drop)]
+#[derive(Clone, Copy)]
 pub struct Saturated {
     pub sample: i16,
     pub clipped: bool,

@@ -1,4 +1,5 @@
 // A chain of stages, carried by value (pipeline.rs): opened from a recipe and written back to it, without its notes.
+#![tactic(auto)]
 ghost use Rattle.std.specs.Prelude.{◌≡◌, length, replicate, []};
 ghost use Rattle.pipeline.specs.Opening.{open_call, unused_stage, chain_of};
 ghost use Rattle.writing.specs.WritingBack.{recipe_of};
@@ -11,7 +12,7 @@ use recipe::{Entry, Record, RecordAnswer};
 use stage::{Stage, StageKind};
 
 // The stages in use are the first `count`; `format` is what reaches the first.
-#[derive(Drop)]
+#[derive(Clone, Copy)]
 pub struct Pipeline {
     pub stages: [Stage; 8],
     pub count: usize,
@@ -21,14 +22,14 @@ pub struct Pipeline {
 }
 
 // What opening came to, and the chain; a chain of no stages where it was refused.
-#[derive(Drop)]
+#[derive(Clone, Copy)]
 pub struct Opened {
     pub verdict: Verdict,
     pub chain: Pipeline,
 }
 
 // How many bytes a recipe took.
-#[derive(Drop)]
+#[derive(Clone, Copy)]
 pub enum WriteAnswer {
     Written(usize),
     Refused(Error),
@@ -36,7 +37,7 @@ pub enum WriteAnswer {
 
 // Document 01's number, needed and length of a WriteAnswer.
 #[repr(C)]
-#[derive(Drop)]
+#[derive(Clone, Copy)]
 pub struct WriteTold {
     pub number: u16,
     pub needed: usize,

@@ -1,4 +1,5 @@
 // The questions of a call, asked in one walk along the stages before any of them moves.
+#![tactic(auto)]
 ghost use Rattle.std.specs.Prelude.{◌≡◌, ◌≤◌, ◌<◌};
 ghost use Rattle.stage.specs.Rooms.{Bounded};
 ghost use Rattle.questions.specs.Walk.{same_format, larger, head_legal, size_verdict, block_frames, due_of, first_short, further, stepped, begun, copy_room, WalkFits, sized_from, verdict_from};
@@ -7,7 +8,7 @@ use pcm::{Error, PcmFormat, Verdict};
 use stage::Stage;
 
 // For which the walk asks: a block on the chain as it is, a block on the chain in any state, or a finish.
-#[derive(Drop)]
+#[derive(Clone, Copy)]
 pub enum Question {
     Block,
     AnyState,
@@ -15,7 +16,7 @@ pub enum Question {
 }
 
 // In frames, what a stage wants room for and what it delivers.
-#[derive(Drop)]
+#[derive(Clone, Copy)]
 pub struct Due {
     pub wanted: usize,
     pub delivered: usize,
@@ -23,7 +24,7 @@ pub struct Due {
 
 // What the walk has found before a stage: whether each stage so far suits the format that reached it, the format and the frames that
 // reach this one, the largest room wanted so far in bytes, and the first that the shorter half does not hold (0: none).
-#[derive(Drop)]
+#[derive(Clone, Copy)]
 pub struct Walk {
     pub legal: bool,
     pub format: PcmFormat,

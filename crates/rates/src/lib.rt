@@ -1,4 +1,5 @@
 // A resampler's rates, and the frames that it wants and delivers, from the phase alone (resample.rs).
+#![tactic(auto)]
 ghost use Rattle.std.specs.Prelude.{◌≡◌, ◌+◌, ◌*◌, ◌/◌, ◌%◌, ◌<◌, ◌^◌};
 ghost use Rattle.pcm.specs.Refusals.{valued};
 ghost use Rattle.rates.specs.Answers.{new_told, rates_told, new_verdict, max_told, max_verdict};
@@ -8,7 +9,7 @@ ghost use Rattle.rates.specs.Rates.{opened_state, resampled_count, rates_allowed
 use pcm::Error;
 
 // The rates, and the same divided by their greatest common divisor.
-#[derive(Drop)]
+#[derive(Clone, Copy)]
 pub struct LinearResampler {
     pub in_rate: u32,
     pub out_rate: u32,
@@ -17,20 +18,20 @@ pub struct LinearResampler {
 }
 
 // The newest frame, one sample a channel, and how far past it the next output lies, in out_r-ths of a frame.
-#[derive(Drop)]
+#[derive(Clone, Copy)]
 pub struct ResamplerState {
     pub last: [i16; 2],
     pub phase: u64,
     pub primed: bool,
 }
 
-#[derive(Drop)]
+#[derive(Clone, Copy)]
 pub enum NewResampler {
     Made(LinearResampler),
     Refused(Error),
 }
 
-#[derive(Drop)]
+#[derive(Clone, Copy)]
 pub enum MaxFrames {
     Frames(usize),
     Refused(Error),

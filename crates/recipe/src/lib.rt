@@ -1,4 +1,5 @@
 // One record of a recipe, read and written (document 01, 'The recipe'; document 02, Q-4).
+#![tactic(auto)]
 ghost use Rattle.std.specs.Prelude.{◌≡◌, true, ◌+◌, ◌*◌, ◌≤◌, ◌<◌, length, drop};
 ghost use Rattle.pcm.specs.Frames.{written};
 ghost use Rattle.pcm.specs.declared.Verdict.TheVariants.{Accepted};
@@ -10,7 +11,7 @@ use biquad::CoefficientBits;
 use pcm::{Error, Verdict};
 
 // A stage's fields as its record's bytes give them.
-#[derive(Drop)]
+#[derive(Clone, Copy)]
 pub enum Record {
     Gain { q15: i32 },
     MonoToStereo,
@@ -21,13 +22,13 @@ pub enum Record {
 }
 
 // What a record is: a stage's, or a note of so many bytes.
-#[derive(Drop)]
+#[derive(Clone, Copy)]
 pub enum Entry {
     Stage(Record),
     Note(usize),
 }
 
-#[derive(Drop)]
+#[derive(Clone, Copy)]
 pub enum RecordAnswer {
     Entry(Entry),
     Refused(Error),

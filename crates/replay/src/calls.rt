@@ -298,7 +298,7 @@ pub fn pole() -> bool {
     true
 }
 
-#[derive(Drop)]
+#[derive(Clone, Copy)]
 enum KindField {
     Kind(BiquadKind),
     Unknown,

@@ -2,7 +2,7 @@
 ghost use Rattle.io.specs.Counts.{IsPrefixLen};
 
 // How many bytes stand at the front of a buffer; the end where the script ends inside them.
-#[derive(Drop)]
+#[derive(Clone, Copy)]
 pub enum Count {
     Value(usize),
     End,
@@ -38,7 +38,7 @@ pub fn bytes(buf: &mut [u8]) -> Count {
 }
 
 // How many bytes stand at the front of each of two halves; the end where the script ends inside them.
-#[derive(Drop)]
+#[derive(Clone, Copy)]
 pub enum Lengths {
     Values(usize, usize),
     End,

@@ -1,4 +1,5 @@
 // The public calls, driven by a script: reads calls from standard input and writes what each answered.
+#![tactic(auto)]
 use pcm::PcmFormat;
 use pipeline::Pipeline;
 
@@ -7,7 +8,7 @@ mod input;
 mod output;
 
 // The chain in use after a command; not ok where the script goes no further.
-#[derive(Drop)]
+#[derive(Clone, Copy)]
 pub struct Step {
     pub ok: bool,
     pub chain: Pipeline,

@@ -1,4 +1,5 @@
 // The block function of `LinearResampler`: linear interpolation between sample rates with an exact rational phase (resample.rs).
+#![tactic(auto)]
 ghost use Rattle.std.specs.Prelude.{◌≡◌, ◌+◌, ◌-◌, ◌*◌, ◌/◌, ◌≤◌, ◌<◌, ◌^◌, [], ◌∷◌, length};
 ghost use Rattle.pcm.specs.Samples.{sample_at};
 ghost use Rattle.pcm.specs.Frames.{frames_of};
@@ -10,7 +11,7 @@ ghost use Rattle.resample.specs.Stage.{earlier_of, Ready, Looped, Processed};
 use rates::{LinearResampler, ResamplerState};
 
 // The frames that a block brought, and the state after it.
-#[derive(Drop)]
+#[derive(Clone, Copy)]
 pub struct Resampled {
     pub frames: usize,
     pub state: ResamplerState,
@@ -25,7 +26,7 @@ fn frac_q32(rem: u64, out_r: u64) -> u64
 }
 
 // num / out_r frames: whole frames, 2^32nds of a frame, and out_r-ths of such.
-#[derive(Drop)]
+#[derive(Clone, Copy)]
 struct Position {
     frame: usize,
     frac: u64,
@@ -103,7 +104,7 @@ fn between(input: &[u8], last: i16, i: usize, width: usize, f: u64) -> i16
 }
 
 // The frames written, and where the next one would lie.
-#[derive(Drop)]
+#[derive(Clone, Copy)]
 struct Delivered {
     frames: usize,
     at: Position,

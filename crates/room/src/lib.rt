@@ -1,5 +1,6 @@
 // The room known beforehand (document 02, Q-5): what a block or a finish will bring, and the smallest halves that hold it. No sound is touched,
 // and no room is lent.
+#![tactic(auto)]
 ghost use Rattle.std.specs.Prelude.{◌≡◌, true, ◌≤◌, ◌<◌};
 ghost use Rattle.pcm.specs.declared.Error.TheVariants.{InvalidFormat};
 ghost use Rattle.pcm.specs.declared.Verdict.TheVariants.{Accepted};
@@ -13,7 +14,7 @@ use pipeline::Pipeline;
 use questions::{Question, Walk};
 
 // The frames that leave the last stage, 0 where that would be 'nothing yet', and the bytes of each of the smallest two equal halves.
-#[derive(Drop)]
+#[derive(Clone, Copy)]
 pub enum Room {
     Known { frames: usize, half: usize },
     Refused(Error),
@@ -21,7 +22,7 @@ pub enum Room {
 
 // Number and values of it: a value that there is not is 0.
 #[repr(C)]
-#[derive(Drop)]
+#[derive(Clone, Copy)]
 pub struct RoomTold {
     pub number: u16,
     pub frames: usize,

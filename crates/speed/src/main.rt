@@ -1,5 +1,6 @@
 // A sound held in memory through a chain, block by block and many times over: what bench/chains times. Standard input holds the rate,
 // the channels, the frames of a block and the number of passes, 32 bits each, low byte first, then the recipe.
+#![tactic(auto)]
 ghost use Rattle.std.specs.Prelude.{◌+◌, ◌<◌, ◌≤◌, length};
 
 use answers::Answer;
@@ -8,7 +9,7 @@ use pipeline::Pipeline;
 use std::num::wrapping_add_u64;
 
 // Frames that came out, a checksum of 32 bits, and samples that were held back.
-#[derive(Drop)]
+#[derive(Clone, Copy)]
 struct Tally {
     frames: u64,
     checksum: u64,
@@ -115,7 +116,7 @@ fn tallied<'a>(tally: Tally, first: bool, answer: Answer, a: &'a [u8], b: &'a [u
 }
 
 // The chain after a pass, and the tally.
-#[derive(Drop)]
+#[derive(Clone, Copy)]
 struct Run {
     chain: Pipeline,
     tally: Tally,

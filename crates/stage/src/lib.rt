@@ -1,4 +1,5 @@
 // One stage of a chain: its kind, the sound memory beside it, and what it asks of a block.
+#![tactic(auto)]
 ghost use Rattle.std.specs.Prelude.{◌≡◌, true, false, ◌&&◌, ◌*◌, ◌≤◌, eqb, leb, ltb, length};
 ghost use Rattle.pcm.specs.Samples.{Samples};
 ghost use Rattle.stage.specs.Rooms.{rates_suit, stage_suits, frames_out, frames_wanted, Bounded};
@@ -11,7 +12,7 @@ use gain::Gain;
 use pcm::PcmFormat;
 use rates::{LinearResampler, ResamplerState};
 
-#[derive(Drop)]
+#[derive(Clone, Copy)]
 pub enum StageKind {
     Gain(Gain),
     MonoToStereo,
@@ -22,13 +23,13 @@ pub enum StageKind {
 }
 
 // What a stage remembers of the sound that it took: a filter's part and a resampler's.
-#[derive(Drop)]
+#[derive(Clone, Copy)]
 pub struct SoundMemory {
     pub filter: FilterMemory,
     pub resampler: ResamplerState,
 }
 
-#[derive(Drop)]
+#[derive(Clone, Copy)]
 pub struct Stage {
     pub kind: StageKind,
     pub memory: SoundMemory,

@@ -1,1 +1,2 @@
 // Document 01's worked examples: the list of theorems is specs/CuppingTable.antt.
+#![tactic(auto)]

@@ -4,9 +4,9 @@ use borrow.Author.Tests.{ne_eqb}
 use Rattle.answers.proofs.copy_unstaged.Statement.{statement}
 use Rattle.answers.proofs.copy_unstaged.Tie as tie
 
-pub copy-unstaged-spec : {M : Type 1} → statement M
-copy-unstaged-spec = tie.close (tie.spec
-    (λ c κs. c.before.before.before.before.requires c.before.if1.true)
+pub copy_unstaged_spec : {M : Type 1} → statement M
+copy_unstaged_spec = tie.close (tie.spec
+    (λ c κs. c.before.before.before.before.requires c.before.if-count-eq0.true)
     (λ c. search rules)
-    (λ c. rw c.before.before.before.before.if1.true c.before.before.copy-front.ensures)
-    (λ c. rw (ne_eqb _ 0 c.if1.false)))
+    (λ c. rw c.before.before.before.before.if-count-eq0.true c.before.before.copy_front.ensures)
+    (λ c. rw (ne_eqb _ 0 c.if-count-eq0.false)))

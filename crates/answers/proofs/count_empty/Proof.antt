@@ -4,8 +4,8 @@ use borrow.Author.Tests.{ne_eqb}
 use Rattle.answers.proofs.count_empty.Statement.{statement}
 use Rattle.answers.proofs.count_empty.Tie as tie
 
-pub count-empty-spec : {M : Type 1} → statement M
-count-empty-spec = tie.close (tie.spec
+pub count_empty_spec : {M : Type 1} → statement M
+count_empty_spec = tie.close (tie.spec
     (λ c κs. search rules)
-    (λ c. rw c.before.if1.true c.count-up.ensures)
-    (λ c. rw (ne_eqb _ 0 c.if1.false)))
+    (λ c. rw c.before.if-len-eq0.true c.count_up.ensures)
+    (λ c. rw (ne_eqb _ 0 c.if-len-eq0.false)))

@@ -4,8 +4,8 @@ use borrow.Author.Tests.{ne_eqb}
 use Rattle.answers.proofs.finish_answered.Statement.{statement}
 use Rattle.answers.proofs.finish_answered.Tie as tie
 
-pub finish-answered-spec : {M : Type 1} → statement M
-finish-answered-spec = tie.close (tie.spec
-    (λ c. rw c.if1.true)
+pub finish_answered_spec : {M : Type 1} → statement M
+finish_answered_spec = tie.close (tie.spec
+    (λ c. rw c.if-len-eq0.true)
     (λ c κs. search rules)
-    (λ c. rw (ne_eqb _ 0 c.before.if1.false, c.last-half.ensures)))
+    (λ c. rw (ne_eqb _ 0 c.before.if-len-eq0.false, c.last_half-half.ensures)))

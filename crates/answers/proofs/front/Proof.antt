@@ -8,8 +8,8 @@ use borrow.Author.Rules.{rules}
 use Rattle.answers.proofs.front.Statement.{statement}
 use Rattle.answers.proofs.front.Tie as tie
 
-pub front-spec : {M : Type 1} → statement M
-front-spec =
+pub front_spec : {M : Type 1} → statement M
+front_spec =
     tie.close
     (tie.spec
     (λ c. sym (length-take-le _ _ (omega arith)))

@@ -20,11 +20,11 @@ odd (suc n) z e = let q : n % 2 ≡ 0 → ⊥ = λ r. e (ap (λ (k : ℕ). k % 2
 first : (n : ℕ) → n ≡ 0 → A ≡ last_half n
 first n e = rw e
 
-pub last-half-spec : {M : Type 1} → statement M
-last-half-spec =
+pub last_half_spec : {M : Type 1} → statement M
+last_half_spec =
     tie.close
     (tie.spec
-    (λ c. first _ c.if1.true)
+    (λ c. first _ c.if-count-eq0.true)
     (λ c. search rules)
-    (λ c. even _ c.before.if1.false c.if2.true)
-    (λ c. odd _ c.before.if1.false c.if2.false))
+    (λ c. even _ c.before.if-count-eq0.false c.if-count-eq0-2.true)
+    (λ c. odd _ c.before.if-count-eq0.false c.if-count-eq0-2.false))

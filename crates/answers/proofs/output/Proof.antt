@@ -3,9 +3,9 @@ use borrow.Author.Rules.{rules}
 use Rattle.answers.proofs.output.Statement.{statement}
 use Rattle.answers.proofs.output.Tie as tie
 
-pub output-spec : {M : Type 1} → statement M
-output-spec =
+pub output_spec : {M : Type 1} → statement M
+output_spec =
     tie.close
     (tie.spec (λ c. search rules) (λ c κs. search rules) (λ c. search rules) (λ c κs. search rules)
-    (λ c. rw c.before.enum_told.given.1 c.front.ensures)
-    (λ c. rw c.before.enum-told2.given.1 c.front2.ensures))
+    (λ c. rw c.before.enum_told-1.given.1 c.front.ensures)
+    (λ c. rw c.before.enum_told-in-B-1.given.1 c.front-in-B.ensures))

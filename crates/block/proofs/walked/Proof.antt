@@ -5,19 +5,19 @@ use Rattle.block.specs.laws.Asking.{Asks, asks_fits, asks_next, asks_end}
 use Rattle.block.proofs.walked.Statement.{statement}
 use Rattle.block.proofs.walked.Tie as tie
 
-abbrev invariant-loop : tie.invariant-loop
+abbrev invariant-loop : tie.invariant-loop-i
 invariant-loop question shorter chain count walk₀ i₀ walk i = Asks question shorter walk₀.format.rate chain.stages count walk₀ walk i
 
-abbrev decreases-loop : tie.decreases-loop
+abbrev decreases-loop : tie.decreases-loop-i
 decreases-loop question shorter chain count walk₀ i₀ walk i = count - i
 
-pub walked-spec : {M : Type 1} → statement M
-walked-spec = tie.close (tie.spec
+pub walked_spec : {M : Type 1} → statement M
+walked_spec = tie.close (tie.spec
     invariant-loop
     decreases-loop
     (λ c. c.requires)
     (λ c. search rules) (λ c. search rules)
-    (λ c κs. asks_fits _ _ _ _ _ _ _ _ c.before.before.loop.invariant c.before.loop-test.true)
+    (λ c κs. asks_fits _ _ _ _ _ _ _ _ c.before.before.loop-i.invariant c.before.loop-i-test.true)
     (λ c. search rules) (λ c. search rules)
-    (λ c. asks_next _ _ _ _ _ _ _ _ c.before.before.before.loop.invariant c.before.before.loop-test.true _ c.asked.ensures)
-    (λ c. let v = c.before.loop.invariant in record { is = asks_end _ _ _ _ _ _ _ _ v c.loop-test.false; largest = v.within.largest; short = v.within.short }))
+    (λ c. asks_next _ _ _ _ _ _ _ _ c.before.before.before.loop-i.invariant c.before.before.loop-i-test.true _ c.asked-walk.ensures)
+    (λ c. let v = c.before.loop-i.invariant in record { is = asks_end _ _ _ _ _ _ _ _ v c.loop-i-test.false; largest = v.within.largest; short = v.within.short }))

@@ -18,13 +18,13 @@ returns c =
     let f = k.before in
     let s = f.before in
     let w = s.before.before.args.w.now in (
-      rw (s.stages-of.ensures, f.format-of.ensures, c.before.counter_at.ensures, c.counter-at2.ensures),
-      subst (λ (l : List Stage). All Small l) (sym s.stages-of.ensures) (small_stages w k.shared-slice-known2.given 0 8),
+      rw (s.stages_of-stages.ensures, f.format_of-format.ensures, c.before.counter_at.ensures, c.counter_at-2.ensures),
+      subst (λ (l : List Stage). All Small l) (sym s.stages_of-stages.ensures) (small_stages w k.shared_slice_known-2-1.given 0 8),
     )
 
-pub chain-at-spec : {M : Type 1} → statement M
-chain-at-spec = tie.close (tie.spec
+pub chain_at_spec : {M : Type 1} → statement M
+chain_at_spec = tie.close (tie.spec
     (λ c κs. search rules) (λ c κs. search rules) (λ c. search rules)
-    (λ c. omega (arith, c.shared-slice-known2.given 0))
+    (λ c. omega (arith, c.shared_slice_known-2-1.given 0))
     (λ c κs. search rules) (λ c κs. search rules)
     returns)

@@ -4,8 +4,8 @@ use native.Mathlib.Omega.{arith}
 use Rattle.chain_words.proofs.count_of.Statement.{statement}
 use Rattle.chain_words.proofs.count_of.Tie as tie
 
-pub count-of-spec : {M : Type 1} → statement M
-count-of-spec = tie.close (tie.spec
+pub count_of_spec : {M : Type 1} → statement M
+count_of_spec = tie.close (tie.spec
     (λ c. search rules)
-    (λ c. omega (arith, c.shared-slice-known.given 0))
+    (λ c. omega (arith, c.shared_slice_known-1.given 0))
     (λ c. search rules))

@@ -17,10 +17,10 @@ returns c =
     let s = c.before.before in
     let w = s.before.args.w.now in
     let i = s.before.args.i in
-    let e : c.kind-of.result ≡ (stage_at w i).kind = c.kind-of.ensures ∙ ap (λ (x : List ℕ). kind_of x (word x 0)) (part_to_end w (8 + 18 * i)) in
-    (e, subst SmallKind (sym e) (small_kind (place_of w i) (place_small w i s.shared-slice-known.given) (word (place_of w i) 0)))
+    let e : c.kind_of.result ≡ (stage_at w i).kind = c.kind_of.ensures ∙ ap (λ (x : List ℕ). kind_of x (word x 0)) (part_to_end w (8 + 18 * i)) in
+    (e, subst SmallKind (sym e) (small_kind (place_of w i) (place_small w i s.shared_slice_known-1.given) (word (place_of w i) 0)))
 
-pub kind-at-spec : {M : Type 1} → statement M
-kind-at-spec = tie.close (tie.spec
+pub kind_at_spec : {M : Type 1} → statement M
+kind_at_spec = tie.close (tie.spec
     (λ c. search rules) (λ c. search rules) (λ c. search rules) (λ c. search rules) (λ c. search rules) (λ c. search rules) (λ c κs. search rules)
     returns)

@@ -5,7 +5,7 @@ use native.Mathlib.Omega.{arith}
 use Rattle.chain_words.proofs.kind_known.Statement.{statement}
 use Rattle.chain_words.proofs.kind_known.Tie as tie
 
-pub kind-known-spec : {M : Type 1} → statement M
-kind-known-spec = tie.close (tie.spec
-    (λ c. rw c.if1.true)
+pub kind_known_spec : {M : Type 1} → statement M
+kind_known_spec = tie.close (tie.spec
+    (λ c. rw c.if-number-eq0.true)
     (λ c. let h : 0 < c.before.args.number = omega arith in rw (lt-ltb _ _ h)))

@@ -16,10 +16,10 @@ returns c =
     let s = c.before.before in
     let w = s.before.args.w.now in
     let i = s.before.args.i in
-    let e : c.memory-of.result ≡ (stage_at w i).memory = c.memory-of.ensures ∙ ap memory_of (part_to_end w (8 + 18 * i)) in
-    (e, subst (λ (m : SoundMemory). m.resampler.phase < 4294967296) (sym e) (small_stage (place_of w i) (place_small w i s.shared-slice-known.given)).phase)
+    let e : c.memory_of.result ≡ (stage_at w i).memory = c.memory_of.ensures ∙ ap memory_of (part_to_end w (8 + 18 * i)) in
+    (e, subst (λ (m : SoundMemory). m.resampler.phase < 4294967296) (sym e) (small_stage (place_of w i) (place_small w i s.shared_slice_known-1.given)).phase)
 
-pub memory-at-spec : {M : Type 1} → statement M
-memory-at-spec = tie.close (tie.spec
+pub memory_at_spec : {M : Type 1} → statement M
+memory_at_spec = tie.close (tie.spec
     (λ c. search rules) (λ c. search rules) (λ c. search rules) (λ c. search rules) (λ c. search rules) (λ c. search rules) (λ c κs. search rules)
     returns)

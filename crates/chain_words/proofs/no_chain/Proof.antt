@@ -3,7 +3,7 @@ use borrow.Author.Rules.{rules}
 use Rattle.chain_words.proofs.no_chain.Statement.{statement}
 use Rattle.chain_words.proofs.no_chain.Tie as tie
 
-pub no-chain-spec : {M : Type 1} → statement M
-no-chain-spec = tie.close (tie.spec
+pub no_chain_spec : {M : Type 1} → statement M
+no_chain_spec = tie.close (tie.spec
     (λ c κs. search rules)
-    (λ c. rw c.new.ensures))
+    (λ c. rw c.new-unused.ensures))

@@ -4,8 +4,8 @@ use native.Mathlib.Numerals.{add-one}
 use Rattle.chain_words.proofs.put_counter.Statement.{statement}
 use Rattle.chain_words.proofs.put_counter.Tie as tie
 
-pub put-counter-spec : {M : Type 1} → statement M
-put-counter-spec = tie.close (tie.spec
+pub put_counter_spec : {M : Type 1} → statement M
+put_counter_spec = tie.close (tie.spec
     (λ c. search rules) (λ c. search rules) (λ c. search rules) (λ c. search rules) (λ c. search rules) (λ c. search rules) (λ c. search rules)
     (λ c. search rules)
     (λ c. rw add-one))

@@ -8,9 +8,9 @@ returns : tie.Need-returns
 returns c =
     let c2 = c.before.before in
     let c1 = c2.before.before.before.before in
-    c2.put-counter2.ensures ∙ rw c1.put-counter.ensures
+    c2.put_counter-2.ensures ∙ rw c1.put_counter.ensures
 
-pub put-counters-spec : {M : Type 1} → statement M
-put-counters-spec = tie.close (tie.spec
+pub put_counters_spec : {M : Type 1} → statement M
+put_counters_spec = tie.close (tie.spec
     (λ c κs. search rules) (λ c κs. search rules) (λ c. search rules)
     returns)

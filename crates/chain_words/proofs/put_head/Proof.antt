@@ -7,23 +7,23 @@ use Rattle.chain_words.specs.Layout.{head_words}
 use Rattle.chain_words.proofs.put_head.Statement.{statement}
 use Rattle.chain_words.proofs.put_head.Tie as tie
 
-slice-write-w-4 : tie.Need-slice-write-w-4
+slice-write-w-4 : tie.Need-bounds-w-7
 slice-write-w-4 c =
     let a = c.before.before.before.before.before.before.before.before in
-    let n : length c.before.before.put-counters.new.0 ≡ length a.args.w.now = ap length c.before.before.put-counters.ensures ∙ simp length-set in
+    let n : length c.before.before.put_counters.new.0 ≡ length a.args.w.now = ap length c.before.before.put_counters.ensures ∙ simp length-set in
     omega (arith, n, a.requires)
 
 returns : tie.Need-returns
 unfolding head_words
-returns c = rw c.before.before.put-counters.ensures
+returns c = rw c.before.before.put_counters.ensures
 
-pub put-head-spec : {M : Type 1} → statement M
-put-head-spec = tie.close (tie.spec
+pub put_head_spec : {M : Type 1} → statement M
+put_head_spec = tie.close (tie.spec
     (λ c. search rules) (λ c. search rules)
     (λ c. simp length-set (omega arith))
     (λ c. search rules)
     (λ c. simp length-set (omega arith))
     (λ c κs. search rules)
     slice-write-w-4
-    (λ c. simp length-set (ap length c.before.before.put-counters.ensures ∙ simp length-set))
+    (λ c. simp length-set (ap length c.before.before.put_counters.ensures ∙ simp length-set))
     returns)

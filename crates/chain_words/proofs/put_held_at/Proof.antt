@@ -7,40 +7,40 @@ use Rattle.chain_words.proofs.Parts.{part_run}
 use Rattle.chain_words.proofs.put_held_at.Statement.{statement}
 use Rattle.chain_words.proofs.put_held_at.Tie as tie
 
-returns-4 : tie.Need-returns-4
+returns-4 : tie.Need-returns-in-Resample
 unfolding held_at held_words
 returns-4 c =
     let p = c.before.before in
     let t = p.before.before in
     let a = t.before.before.before.before.args in
-    rw t.before.enum-told4.given.1 (part_run (state_words a.m.resampler) a.w.now _ (8 + 18 * a.i) 15 p.put-state.ensures.0, p.put-state.ensures.1)
+    rw t.before.enum_told-in-Resample-1.given.1 (part_run (state_words a.m.resampler) a.w-1.now _ (8 + 18 * a.i) 15 p.put_state.ensures.0, p.put_state.ensures.1)
 
-returns-5 : tie.Need-returns-5
+returns-5 : tie.Need-returns-in-DcBlock
 unfolding held_at held_words
 returns-5 c =
     let p = c.before.before in
     let t = p.before.before in
     let a = t.before.before.before.before.args in
-    rw t.before.enum-told5.given.1 (part_run (filter_words a.m.filter) a.w.now _ (8 + 18 * a.i) 7 p.put-filter.ensures.0, p.put-filter.ensures.1)
+    rw t.before.enum_told-in-DcBlock-1.given.1 (part_run (filter_words a.m.filter-1) a.w-1.now _ (8 + 18 * a.i) 7 p.put_filter.ensures.0, p.put_filter.ensures.1)
 
-returns-6 : tie.Need-returns-6
+returns-6 : tie.Need-returns-in-Biquad
 unfolding held_at held_words
 returns-6 c =
     let p = c.before.before in
     let t = p.before.before in
     let a = t.before.before.before.before.args in
-    rw t.before.enum-told6.given.1 (part_run (filter_words a.m.filter) a.w.now _ (8 + 18 * a.i) 7 p.put-filter2.ensures.0, p.put-filter2.ensures.1)
+    rw t.before.enum_told-in-Biquad-1.given.1 (part_run (filter_words a.m.filter-1) a.w-1.now _ (8 + 18 * a.i) 7 p.put_filter-in-Biquad.ensures.0, p.put_filter-in-Biquad.ensures.1)
 
-pub put-held-at-spec : {M : Type 1} → statement M
+pub put_held_at_spec : {M : Type 1} → statement M
 unfolding held_at held_words
-put-held-at-spec = tie.close (tie.spec
+put_held_at_spec = tie.close (tie.spec
     (λ c. search rules) (λ c. search rules) (λ c. search rules) (λ c. search rules) (λ c. search rules) (λ c. search rules) (λ c. search rules)
     (λ c. search rules) (λ c. search rules) (λ c. search rules) (λ c κs. search rules) (λ c. search rules) (λ c. search rules) (λ c. search rules)
     (λ c. search rules) (λ c. search rules) (λ c κs. search rules) (λ c. search rules) (λ c. search rules) (λ c. search rules) (λ c. search rules)
     (λ c. search rules) (λ c κs. search rules)
-    (λ c. rw c.enum_told.given.1 (refl, tt))
-    (λ c. rw c.enum-told2.given.1 (refl, tt))
-    (λ c. rw c.enum-told3.given.1 (refl, tt))
+    (λ c. rw c.enum_told-1.given.1 (refl, tt))
+    (λ c. rw c.enum_told-in-MonoToStereo-1.given.1 (refl, tt))
+    (λ c. rw c.enum_told-in-StereoToMono-1.given.1 (refl, tt))
     (λ c. search rules)
     returns-4
     (λ c. search rules)

@@ -19,31 +19,31 @@ use Rattle.chain_words.specs.laws.Keeping.{length_kept}
 use Rattle.chain_words.proofs.put_memories.Statement.{statement}
 use Rattle.chain_words.proofs.put_memories.Tie as tie
 
-abbrev invariant-loop : tie.invariant-loop
+abbrev invariant-loop : tie.invariant-loop-i
 invariant-loop w₀ count stages i₀ w i = (i ≤ count) × (length stages ≡ 8) × (w ≡ kept_words w₀ 0 (take i stages)) × All HeldMemory (take i stages)
 
-abbrev decreases-loop : tie.decreases-loop
+abbrev decreases-loop : tie.decreases-loop-i
 decreases-loop w₀ count stages i₀ w i = count - i
 
-loop-holds : tie.Need-loop-init invariant-loop decreases-loop
+loop-holds : tie.Need-loop-i-init invariant-loop decreases-loop
 loop-holds c = (omega arith, search (unmapped, rules), sym (kept_none _ 0), tt)
 
-long : (l : tie.At-loop invariant-loop decreases-loop) → length l.loop.w ≡ length l.before.before.args.w.now
-long l = ap length l.loop.invariant.2 ∙ length_kept (take l.loop.i l.before.before.args.t2) l.before.before.args.w.now 0
+long : (l : tie.At-loop-i invariant-loop decreases-loop) → length l.loop-i.w ≡ length l.before.before.args.w.now
+long l = ap length l.loop-i.invariant.2 ∙ length_kept (take l.loop-i.i l.before.before.args.stages) l.before.before.args.w.now 0
 
-put-memory-at-requires : tie.Need-put-memory-at-requires invariant-loop decreases-loop
+put-memory-at-requires : tie.Need-put_memory_at-requires invariant-loop decreases-loop
 put-memory-at-requires c κs = let l = c.before.before.before.before in (omega arith, omega (arith, long l, l.before.before.requires.1))
 
-loop-again : tie.Need-loop-preserved invariant-loop decreases-loop
+loop-again : tie.Need-loop-i-preserved invariant-loop decreases-loop
 loop-again c =
     let l = c.before.before.before.before.before.before.before in
-    let st = l.before.before.args.t2 in
+    let st = l.before.before.args.stages in
     let w₀ = l.before.before.args.w.now in
-    let i = l.loop.i in
-    let v = l.loop.invariant in
-    let p = c.before.before.put-memory-at.ensures in
+    let i = l.loop-i.i in
+    let v = l.loop-i.invariant in
+    let p = c.before.before.put_memory_at.ensures in
     let b = take i st in
-    let m = memory_words (get_or st i no_stage).memory in
+    let m = memory_words (get_or st i no_stage).memory-1 in
     let h : i < length st = omega (arith, l.before.before.requires.0) in
     let e : i ≡ 0 + length b = omega (arith, length-take-le i st (omega arith)) in (
       omega arith,
@@ -56,11 +56,11 @@ loop-again c =
 returns : tie.Need-returns invariant-loop decreases-loop
 returns c =
     let l = c.before in
-    let e : l.loop.i ≡ l.before.before.args.count = omega arith in
-    (rw e at l.loop.invariant.2, rw e at l.loop.invariant.3)
+    let e : l.loop-i.i ≡ l.before.before.args.count = omega arith in
+    (rw e at l.loop-i.invariant.2, rw e at l.loop-i.invariant.3)
 
-pub put-memories-spec : {M : Type 1} → statement M
-put-memories-spec = tie.close (tie.spec invariant-loop decreases-loop
+pub put_memories_spec : {M : Type 1} → statement M
+put_memories_spec = tie.close (tie.spec invariant-loop decreases-loop
     loop-holds
     (λ c. search rules)
     (λ c. omega (arith, c.before.before.before.requires.0))

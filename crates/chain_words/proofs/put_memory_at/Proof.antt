@@ -10,10 +10,10 @@ returns : tie.Need-returns
 returns c =
     let a = c.before.before.before.before.before.args in
     let p = c.before.before in
-    (part_run (memory_words a.m) a.w.now _ (8 + 18 * a.i) 7 p.put-memory.ensures.0, p.put-memory.ensures.1, p.put-memory.ensures.2)
+    (part_run (memory_words a.m) a.w-1.now _ (8 + 18 * a.i) 7 p.put_memory.ensures.0, p.put_memory.ensures.1, p.put_memory.ensures.2)
 
-pub put-memory-at-spec : {M : Type 1} → statement M
-put-memory-at-spec = tie.close (tie.spec
+pub put_memory_at_spec : {M : Type 1} → statement M
+put_memory_at_spec = tie.close (tie.spec
     (λ c. search rules) (λ c. search rules) (λ c. search rules) (λ c. search rules) (λ c. search rules) (λ c. search rules) (λ c κs. search rules)
     (λ c. search rules)
     returns)

@@ -10,9 +10,9 @@ unfolding with_sound
 returns c =
     let b = c.before.before in
     let a = b.before.before.before.before in
-    (b.put-counters.ensures ∙ rw a.put-memories.ensures.0, a.put-memories.ensures.1)
+    (b.put_counters.ensures ∙ rw a.put_memories.ensures.0, a.put_memories.ensures.1)
 
-pub put-sound-spec : {M : Type 1} → statement M
-put-sound-spec = tie.close (tie.spec
+pub put_sound_spec : {M : Type 1} → statement M
+put_sound_spec = tie.close (tie.spec
     (λ c κs. search rules) (λ c κs. search rules) (λ c. search rules)
     returns)

@@ -14,10 +14,10 @@ returns c =
     let a = c.before.before.before.before.before.args in
     let p = c.before.before in
     let e : 8 + 18 * a.i + 0 ≡ 8 + 18 * a.i = omega arith in
-    (part_run (words_of_stage a.s) a.w.now _ (8 + 18 * a.i) 0 p.put-stage.ensures.0 ∙ ap (λ (n : ℕ). sets a.w.now n (words_of_stage a.s)) e, p.put-stage.ensures.1)
+    (part_run (words_of_stage a.s) a.w-1.now _ (8 + 18 * a.i) 0 p.put_stage.ensures.0 ∙ ap (λ (n : ℕ). sets a.w-1.now n (words_of_stage a.s)) e, p.put_stage.ensures.1)
 
-pub put-stage-at-spec : {M : Type 1} → statement M
-put-stage-at-spec = tie.close (tie.spec
+pub put_stage_at_spec : {M : Type 1} → statement M
+put_stage_at_spec = tie.close (tie.spec
     (λ c. search rules) (λ c. search rules) (λ c. search rules) (λ c. search rules) (λ c. search rules) (λ c. search rules) (λ c κs. search rules)
     (λ c. search rules)
     returns)

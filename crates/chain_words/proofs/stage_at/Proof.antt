@@ -8,9 +8,9 @@ use Rattle.chain_words.proofs.stage_at.Statement.{statement}
 use Rattle.chain_words.proofs.stage_at.Tie as tie
 
 returns : tie.Need-returns
-returns c = c.stage-of.ensures ∙ ap stage_of (part_to_end c.before.before.before.args.w.now (8 + 18 * c.before.before.before.args.i))
+returns c = c.stage_of.ensures ∙ ap stage_of (part_to_end c.before.before.before.args.w.now (8 + 18 * c.before.before.before.args.i))
 
-pub stage-at-spec : {M : Type 1} → statement M
-stage-at-spec = tie.close (tie.spec
+pub stage_at_spec : {M : Type 1} → statement M
+stage_at_spec = tie.close (tie.spec
     (λ c. search rules) (λ c. search rules) (λ c. search rules) (λ c. search rules) (λ c. search rules) (λ c. search rules) (λ c κs. search rules)
     returns)

@@ -14,10 +14,10 @@ returns c =
     let c3 = c4.before in
     let c2 = c3.before in
     let c1 = c2.before in
-    rw (c1.stage_at.ensures, c2.stage-at2.ensures, c3.stage-at3.ensures, c4.stage-at4.ensures, c5.stage-at5.ensures, c6.stage-at6.ensures, c7.stage-at7.ensures, c.stage-at8.ensures)
+    rw (c1.stage_at.ensures, c2.stage_at-2.ensures, c3.stage_at-3.ensures, c4.stage_at-4.ensures, c5.stage_at-5.ensures, c6.stage_at-6.ensures, c7.stage_at-7.ensures, c.stage_at-8.ensures)
 
-pub stages-of-spec : {M : Type 1} → statement M
-stages-of-spec = tie.close (tie.spec
+pub stages_of_spec : {M : Type 1} → statement M
+stages_of_spec = tie.close (tie.spec
     (λ c κs. search rules) (λ c κs. search rules) (λ c κs. search rules) (λ c κs. search rules) (λ c κs. search rules) (λ c κs. search rules)
     (λ c κs. search rules) (λ c κs. search rules)
     returns)

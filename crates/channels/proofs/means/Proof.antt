@@ -18,10 +18,10 @@ use Rattle.channels.specs.laws.Channels.{mono_next, mono-nil, mono-append}
 use Rattle.channels.proofs.means.Statement.{statement}
 use Rattle.channels.proofs.means.Tie as tie
 
-abbrev invariant-loop : tie.invariant-loop
+abbrev invariant-loop : tie.invariant-loop-k
 invariant-loop s a₀ k₀ a k = (k ≤ 16) × (length a ≡ 16) × (encode (take k a) ≡ mono_bytes (take (4 * k) s))
 
-abbrev decreases-loop : tie.decreases-loop
+abbrev decreases-loop : tie.decreases-loop-k
 decreases-loop s a₀ k₀ a k = 16 - k
 
 module _ (s : List ℕ) where
@@ -44,24 +44,24 @@ module _ (s : List ℕ) where
       ∙ ap₂ ◌++◌ r (ap (λ (z : ℤ). encode (z ∷ [])) e)
       ∙ sym (rw n (frame_more (4 * k) (omega arith) q))
 
-loop-again : tie.Need-loop-preserved invariant-loop decreases-loop
+loop-again : tie.Need-loop-k-preserved invariant-loop decreases-loop
 loop-again c =
     let l = c.before.before in
-    let s = l.before.before.args in (
+    let s = l.args in (
       omega arith,
-      simp length-set l.loop.invariant.1,
-      mean_more s.s.now l.loop.a l.loop.k _ (omega arith) (omega arith) (answered w16 c.mean-at.type-inv c.mean-at.ensures) l.loop.invariant.2,
+      simp length-set l.loop-k.invariant.1,
+      mean_more s.s.now l.loop-k.a l.loop-k.k _ (omega arith) (omega arith) (answered w16 c.mean_at.type_inv c.mean_at.ensures) l.loop-k.invariant.2,
     )
 
 returns : tie.Need-returns invariant-loop decreases-loop
 returns c =
     let l = c.before in
-    let e : l.loop.k ≡ 16 = omega arith in
-    let s = l.before.before.args.s.now in
-    sym (ap encode (take_all 16 l.loop.a (omega arith))) ∙ (rw e at l.loop.invariant.2) ∙ ap mono_bytes (take_all 64 s (omega arith))
+    let e : l.loop-k.k ≡ 16 = omega arith in
+    let s = l.args.s.now in
+    sym (ap encode (take_all 16 l.loop-k.a (omega arith))) ∙ (rw e at l.loop-k.invariant.2) ∙ ap mono_bytes (take_all 64 s (omega arith))
 
-pub means-spec : {M : Type 1} → statement M
-means-spec = tie.close (tie.spec invariant-loop decreases-loop
+pub means_spec : {M : Type 1} → statement M
+means_spec = tie.close (tie.spec invariant-loop decreases-loop
     (λ c. (omega arith, refl, sym mono-nil))
     (λ c. omega arith)
     (λ c κs. omega arith)

@@ -13,13 +13,13 @@ use Rattle.channels.proofs.Channels.{length_mixed}
 use Rattle.channels.proofs.mix_block.Statement.{statement}
 use Rattle.channels.proofs.mix_block.Tie as tie
 
-abbrev invariant-loop : tie.invariant-loop
+abbrev invariant-loop : tie.invariant-loop-i
 invariant-loop a b out₀ n i₀ out i = (i ≤ n) × (i % 2 ≡ 0) × Writing (written (mixed_bytes a b) out₀) (mixed_bytes (drop i a) (drop i b)) n out₀ out i
 
-abbrev decreases-loop : tie.decreases-loop
+abbrev decreases-loop : tie.decreases-loop-i
 decreases-loop a b out₀ n i₀ out i = n - i
 
-loop-again : tie.Need-loop-preserved invariant-loop decreases-loop
+loop-again : tie.Need-loop-i-preserved invariant-loop decreases-loop
 unfolding sample_at mixed_bytes
 loop-again c =
     let put = c.before.before in
@@ -29,24 +29,24 @@ loop-again c =
     let s = loop.before.before.before.before in
     let a = s.args.a.now in
     let b = s.args.b.now in
-    let i = loop.loop.i in
+    let i = loop.loop-i.i in
     let y =
-    answered w16 sum.sum-i16.type-inv sum.sum-i16.ensures
-    ∙ ap₂ mixed (answered w16 get.get-i16.type-inv get.get-i16.ensures) (answered w16 sum.before.get-i162.type-inv sum.before.get-i162.ensures) in
-    let rest = writing_as loop.loop.invariant.2 (ap₂ mixed_bytes (next_pair a i (omega arith)) (next_pair b i (omega (arith, s.requires.1)))) in
-    (omega arith, omega arith, writing_put rest put.put-i16.ensures y (omega arith) (omega (arith, s.requires.2)))
+    answered w16 sum.sum_i16.type_inv sum.sum_i16.ensures
+    ∙ ap₂ mixed (answered w16 get.get_i16.type_inv get.get_i16.ensures) (answered w16 sum.get_i16-in-loop-i.type_inv sum.get_i16-in-loop-i.ensures) in
+    let rest = writing_as loop.loop-i.invariant.2 (ap₂ mixed_bytes (next_pair a i (omega arith)) (next_pair b i (omega (arith, s.requires.1)))) in
+    (omega arith, omega arith, writing_put rest put.put_i16.ensures y (omega arith) (omega (arith, s.requires.2)))
 
 returns : tie.Need-returns invariant-loop decreases-loop
 unfolding mixed_bytes
 returns c =
-    let s = c.before.before.before.before.before.args in
-    let i = c.before.loop.i in
-    writing_end (λ t. mixed_bytes t (drop i s.b.now)) s.a.now i c.before.loop.invariant.2 (omega arith) refl (omega arith)
+    let s = c.args in
+    let i = c.loop-i.i in
+    writing_end (λ t. mixed_bytes t (drop i s.b.now)) s.a.now i c.loop-i.invariant.2 (omega arith) refl (omega arith)
 
-pub mix-block-spec : {M : Type 1} → statement M
-mix-block-spec = tie.close (tie.spec invariant-loop decreases-loop
+pub mix_block_spec : {M : Type 1} → statement M
+mix_block_spec = tie.close (tie.spec invariant-loop decreases-loop
     (λ c. let s = c.before.before.before in (omega arith, refl, writing_start _ _ _ (sym (length_mixed _ _ s.requires.1 s.requires.0))))
     (λ c κs. omega arith) (λ c κs. omega arith) (λ c κs. tt) (λ c κs. omega arith) (λ c. omega arith) (λ c. omega arith)
     loop-again
-    (λ c. c.before.loop.invariant.2.len)
+    (λ c. c.loop-i.invariant.2.len)
     returns)

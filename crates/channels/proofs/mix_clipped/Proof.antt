@@ -11,16 +11,16 @@ use Rattle.channels.proofs.Counts.{sums_from, length_sums_from, sums_part, sums_
 use Rattle.channels.proofs.mix_clipped.Statement.{statement}
 use Rattle.channels.proofs.mix_clipped.Tie as tie
 
-abbrev invariant-loop : tie.invariant-loop
+abbrev invariant-loop : tie.invariant-loop-at
 invariant-loop a b n at₀ c₀ at c = Counting outside16 (sums_from a b) n c at
 
-abbrev decreases-loop : tie.decreases-loop
+abbrev decreases-loop : tie.decreases-loop-at
 decreases-loop a b n at₀ c₀ at c = n - at
 
-ends : (c : tie.After-least invariant-loop decreases-loop) → Span (length c.before.before.before.before.before.args.a.now) c.before.before.loop.at c.least.result
-ends c = let loop = c.before.before in span c.least.ensures (omega arith) (omega arith) loop.before.before.before.requires.0 loop.loop.invariant.even loop.loop.invariant.inside
+ends : (c : tie.After-least invariant-loop decreases-loop) → Span (length c.args.a.now) c.loop-at.at c.least.result
+ends c = let loop = c.before.before in span c.least.ensures (omega arith) (omega arith) loop.requires.0 loop.loop-at.invariant.even loop.loop-at.invariant.inside
 
-span-clipped-requires : tie.Need-span-clipped-requires invariant-loop decreases-loop
+span-clipped-requires : tie.Need-span_clipped-requires invariant-loop decreases-loop
 span-clipped-requires c κs =
     let least = c.before.before in
     let e = ends least in
@@ -29,7 +29,7 @@ span-clipped-requires c κs =
     let lb = part_length s.args.b.now _ _ e.after (omega (arith, e.inside, s.requires.1)) in
     (rw la e.whole, la ∙ sym lb, rw la (omega (arith, e.short)))
 
-loop-again : tie.Need-loop-preserved invariant-loop decreases-loop
+loop-again : tie.Need-loop-at-preserved invariant-loop decreases-loop
 unfolding mix_clipped
 loop-again c =
     let least = c.before.before.before in
@@ -37,18 +37,18 @@ loop-again c =
     let s = loop.before.before.before in
     let a = s.args.a.now in
     let b = s.args.b.now in
-    let at = loop.loop.at in
+    let at = loop.loop-at.at in
     let to = at + least.least.result in
     let e = ends least in
-    counting-part loop.loop.invariant (sums (decode (take (to - at) (drop at a))) (decode (take (to - at) (drop at b)))) e.inside e.even
-    (sums_part a b at to s.requires.1 e.after e.inside e.whole) c.span-clipped.ensures
+    counting-part loop.loop-at.invariant (sums (decode (take (to - at) (drop at a))) (decode (take (to - at) (drop at b)))) e.inside e.even
+    (sums_part a b at to s.requires.1 e.after e.inside e.whole) c.span_clipped.ensures
 
 returns : tie.Need-returns invariant-loop decreases-loop
 unfolding mix_clipped
-returns c = let s = c.before.before.before.before.args in counting-end c.before.loop.invariant (sums_past s.a.now s.b.now c.before.loop.at (omega arith))
+returns c = let s = c.args in counting-end c.loop-at.invariant (sums_past s.a.now s.b.now c.loop-at.at (omega arith))
 
-pub mix-clipped-spec : {M : Type 1} → statement M
-mix-clipped-spec = tie.close (tie.spec invariant-loop decreases-loop
+pub mix_clipped_spec : {M : Type 1} → statement M
+mix_clipped_spec = tie.close (tie.spec invariant-loop decreases-loop
     (λ c. counting_start)
     (λ c. omega arith)
     (λ c κs. search rules)
@@ -58,10 +58,10 @@ mix-clipped-spec = tie.close (tie.spec invariant-loop decreases-loop
     (λ c. omega arith)
     (λ c. omega arith)
     (λ c. omega arith)
-    (λ c. let e = ends c.before in omega (arith, e.inside, c.before.before.before.before.before.before.requires.1))
+    (λ c. let e = ends c.before in omega (arith, e.inside, c.requires.1))
     span-clipped-requires
     (λ c. search rules)
-    (λ c. let s = c.before.before.before.before.before.before.before.before.args in record { fits = omega (arith, counting-fits (loop-again c), length_sums_from s.a.now s.b.now) })
+    (λ c. let s = c.args in record { fits = omega (arith, counting-fits (loop-again c), length_sums_from s.a.now s.b.now) })
     (λ c. omega arith)
     loop-again
     returns)

@@ -13,36 +13,36 @@ use Rattle.channels.specs.laws.Channels.{mono_next, mono-nil, length_mono}
 use Rattle.channels.proofs.mix_down_each.Statement.{statement}
 use Rattle.channels.proofs.mix_down_each.Tie as tie
 
-abbrev invariant-loop : tie.invariant-loop
+abbrev invariant-loop : tie.invariant-loop-i
 invariant-loop input out₀ n i₀ j₀ out i j = (i ≤ n) × (i % 4 ≡ 0) × (i ≡ j * 2) × Writing (written (mono_bytes input) out₀) (mono_bytes (drop i input)) (n / 2) out₀ out j
 
-abbrev decreases-loop : tie.decreases-loop
+abbrev decreases-loop : tie.decreases-loop-i
 decreases-loop input out₀ n i₀ j₀ out i j = n - i
 
-loop-again : tie.Need-loop-preserved invariant-loop decreases-loop
+loop-again : tie.Need-loop-i-preserved invariant-loop decreases-loop
 unfolding sample_at
 loop-again c =
     let put = c.before.before in
     let read = put.before in
     let l = read.before.before.before in
-    let input = l.before.before.before.args.input.now in
-    let i = l.loop.i in
-    let rest = writing_as l.loop.invariant.3 (ap mono_bytes (next_four input i (omega arith)) ∙ mono_next _ _ (drop (i + 4) input) _ _) in
-    (omega arith, omega arith, omega arith, writing_put rest put.put-i16.ensures (answered w16 read.mean-at.type-inv read.mean-at.ensures) (omega arith) (omega arith))
+    let input = l.args.input.now in
+    let i = l.loop-i.i in
+    let rest = writing_as l.loop-i.invariant.3 (ap mono_bytes (next_four input i (omega arith)) ∙ mono_next _ _ (drop (i + 4) input) _ _) in
+    (omega arith, omega arith, omega arith, writing_put rest put.put_i16.ensures (answered w16 read.mean_at.type_inv read.mean_at.ensures) (omega arith) (omega arith))
 
 returns : tie.Need-returns invariant-loop decreases-loop
 returns c =
-    let s = c.before.before.before.before.args in
-    writing_end mono_bytes s.input.now c.before.loop.i c.before.loop.invariant.3 (omega arith) mono-nil (omega arith)
+    let s = c.args in
+    writing_end mono_bytes s.input.now c.loop-i.i c.loop-i.invariant.3 (omega arith) mono-nil (omega arith)
 
-pub mix-down-each-spec : {M : Type 1} → statement M
-mix-down-each-spec = tie.close (tie.spec invariant-loop decreases-loop
-    (λ c. (omega arith, refl, refl, writing_start _ _ _ (sym (length_mono _ c.before.before.requires.0))))
+pub mix_down_each_spec : {M : Type 1} → statement M
+mix_down_each_spec = tie.close (tie.spec invariant-loop decreases-loop
+    (λ c. (omega arith, refl, refl, writing_start _ _ _ (sym (length_mono _ c.requires.0))))
     (λ c κs. omega arith)
     (λ c κs. omega arith)
     (λ c. omega arith)
     (λ c. omega arith)
     (λ c. omega arith)
     loop-again
-    (λ c. c.before.loop.invariant.3.len)
+    (λ c. c.loop-i.invariant.3.len)
     returns)

@@ -29,32 +29,32 @@ promised a b out v e f g =
     ((h, g), ap mix_told h ∙ told_of_answer (mix_verdict a b out) clipped)
 
 -- past the first question the verdict is that on the room
-room_is : (c : tie.After-require-room) → let s = c.before.before.before.before.before.before.before.args in mix_verdict s.a.now s.b.now s.out.now ≡ c.require-room.result
-room_is c = let e = c.before.before in mix_asks_room _ _ _ e.before.if1.false e.if2.false ∙ sym c.require-room.ensures
+room_is : (c : tie.After-require_room) → let s = c.args in mix_verdict s.a.now s.b.now s.out.now ≡ c.require_room.result
+room_is c = let e = c.before.before in mix_asks_room _ _ _ e.if-n-b.false e.if-n-ne0.false ∙ sym c.require_room.ensures
 
-room-there : (c : tie.After-enum-told) → let s = c.before.before.before.before.before.before.before.before.before.args in length s.a.now ≤ length s.out.now
-room-there c = room_enough _ _ (sym c.before.before.require-room.ensures ∙ c.enum_told.given.1)
+room-there : (c : tie.In-Accepted) → let s = c.args in length s.a.now ≤ length s.out.now
+room-there c = room_enough _ _ (sym c.require_room.ensures ∙ c.in-Accepted.is)
 
-mix-block-requires : tie.Need-mix-block-requires
+mix-block-requires : tie.Need-mix_block-requires
 mix-block-requires c κs =
     let told = c.before.before in
     let e = told.before.before.before.before in
-    (e.if2.false, e.before.if1.false, room-there told)
+    (e.if-n-ne0.false, e.if-n-b.false, room-there told)
 
-returns-4 : tie.Need-returns-4
+returns-4 : tie.Need-returns-in-Accepted
 returns-4 c =
     let call = c.before.before in
     let counted = call.before.before in
     let told = counted.before in
-    promised _ _ _ Accepted (room_is told.before.before ∙ told.enum_told.given.1) (ap answer.Mixed counted.mix-clipped.ensures) call.mix-block.ensures
+    promised _ _ _ Accepted (room_is told.before.before ∙ told.in-Accepted.is) (ap answer.Mixed counted.mix_clipped-count.ensures) call.mix_block.ensures
 
-pub mix-i16-spec : {M : Type 1} → statement M
-mix-i16-spec = tie.close (tie.spec
-    (λ c. promised _ _ _ (Refused _) (mix_unequal _ _ _ c.if1.true) refl refl)
-    (λ c. promised _ _ _ (Refused _) (mix_odd _ _ _ c.before.if1.false c.if2.true) refl refl)
+pub mix_i16_spec : {M : Type 1} → statement M
+mix_i16_spec = tie.close (tie.spec
+    (λ c. promised _ _ _ (Refused _) (mix_unequal _ _ _ c.if-n-b.true) refl refl)
+    (λ c. promised _ _ _ (Refused _) (mix_odd _ _ _ c.if-n-b.false c.if-n-ne0.true) refl refl)
     (λ c κs. search rules) (λ c. search rules) (λ c. search rules) (λ c κs. search rules)
     mix-block-requires
     (λ c. search rules)
-    (λ c. promised _ _ _ (Refused _) (room_is c.before.before.before ∙ c.before.e.given.1) refl refl)
+    (λ c. promised _ _ _ (Refused _) (room_is c.before.before.before ∙ c.in-Refused.is) refl refl)
     (λ c. search rules)
     returns-4)

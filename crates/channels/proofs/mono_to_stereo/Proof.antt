@@ -13,35 +13,35 @@ use Rattle.channels.specs.laws.Channels.{stereo_next, stereo-nil, length_stereo}
 use Rattle.channels.proofs.mono_to_stereo.Statement.{statement}
 use Rattle.channels.proofs.mono_to_stereo.Tie as tie
 
-abbrev invariant-loop : tie.invariant-loop
+abbrev invariant-loop : tie.invariant-loop-i
 invariant-loop input out₀ n i₀ j₀ out i j = (i ≤ n) × (i % 2 ≡ 0) × (j ≡ i * 2) × Writing (written (stereo_bytes input) out₀) (stereo_bytes (drop i input)) (n * 2) out₀ out j
 
-abbrev decreases-loop : tie.decreases-loop
+abbrev decreases-loop : tie.decreases-loop-i
 decreases-loop input out₀ n i₀ j₀ out i j = n - i
 
-loop-again : tie.Need-loop-preserved invariant-loop decreases-loop
+loop-again : tie.Need-loop-i-preserved invariant-loop decreases-loop
 unfolding sample_at
 loop-again c =
     let put2 = c.before.before in
     let put = put2.before.before.before.before in
     let get = put.before.before in
     let loop = get.before.before in
-    let input = loop.before.before.before.args.input.now in
-    let x = answered w16 get.get-i16.type-inv get.get-i16.ensures in
-    let e : loop.loop.j + 2 + 2 ≡ loop.loop.j + 4 = omega arith in
-    let rest = writing_as loop.loop.invariant.3 (ap stereo_bytes (next_pair input loop.loop.i (omega arith)) ∙ stereo_next _ _ (drop (loop.loop.i + 2) input)) in
-    let one = writing_put rest put.put-i16.ensures x (omega arith) (omega arith) in
-    (omega arith, omega arith, omega arith, rw e at (writing_put one put2.put-i162.ensures x (omega arith) (omega arith)))
+    let input = loop.args.input.now in
+    let x = answered w16 get.get_i16-x.type_inv get.get_i16-x.ensures in
+    let e : loop.loop-i.j + 2 + 2 ≡ loop.loop-i.j + 4 = omega arith in
+    let rest = writing_as loop.loop-i.invariant.3 (ap stereo_bytes (next_pair input loop.loop-i.i (omega arith)) ∙ stereo_next _ _ (drop (loop.loop-i.i + 2) input)) in
+    let one = writing_put rest put.put_i16.ensures x (omega arith) (omega arith) in
+    (omega arith, omega arith, omega arith, rw e at (writing_put one put2.put_i16-in-loop-i.ensures x (omega arith) (omega arith)))
 
 returns : tie.Need-returns invariant-loop decreases-loop
 returns c =
-    let s = c.before.before.before.before.args in
-    writing_end stereo_bytes s.input.now c.before.loop.i c.before.loop.invariant.3 (omega arith) stereo-nil (omega arith)
+    let s = c.args in
+    writing_end stereo_bytes s.input.now c.loop-i.i c.loop-i.invariant.3 (omega arith) stereo-nil (omega arith)
 
-pub mono-to-stereo-spec : {M : Type 1} → statement M
-mono-to-stereo-spec = tie.close (tie.spec invariant-loop decreases-loop
-    (λ c. (omega arith, refl, refl, writing_start _ _ _ (sym (length_stereo _ c.before.before.requires.0))))
+pub mono_to_stereo_spec : {M : Type 1} → statement M
+mono_to_stereo_spec = tie.close (tie.spec invariant-loop decreases-loop
+    (λ c. (omega arith, refl, refl, writing_start _ _ _ (sym (length_stereo _ c.requires.0))))
     (λ c κs. omega arith) (λ c κs. omega arith) (λ c. omega arith) (λ c κs. omega arith) (λ c. omega arith) (λ c. omega arith) (λ c. omega arith)
     loop-again
-    (λ c. c.before.loop.invariant.3.len)
+    (λ c. c.loop-i.invariant.3.len)
     returns)

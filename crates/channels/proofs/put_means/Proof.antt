@@ -17,41 +17,41 @@ use Rattle.pcm.specs.laws.Writing.{Writing, writing_start, writing_as, writing_p
 use Rattle.channels.proofs.put_means.Statement.{statement}
 use Rattle.channels.proofs.put_means.Tie as tie
 
-abbrev invariant-loop : tie.invariant-loop
+abbrev invariant-loop : tie.invariant-loop-k
 invariant-loop out₀ a k₀ out k = (k ≤ 16) × Writing (written (encode a) out₀) (encode (drop k a)) 32 out₀ out (2 * k)
 
-abbrev decreases-loop : tie.decreases-loop
+abbrev decreases-loop : tie.decreases-loop-k
 decreases-loop out₀ a k₀ out k = 16 - k
 
 -- the bytes of one sample, and of those after it
 next_sample : (a : List ℤ) (k : ℕ) → k < length a → encode (drop k a) ≡ low_of (get_or a k (pos 0)) ∷ high_of (get_or a k (pos 0)) ∷ encode (drop (k + 1) a)
 next_sample a k h = ap encode (drop-cons a k (pos 0) h) ∙ rw add-one
 
-sixteen : (c : tie.Start invariant-loop decreases-loop) → length c.args.t1 ≡ 16
+sixteen : (c : tie.Start invariant-loop decreases-loop) → length c.args.a ≡ 16
 sixteen c = search rules
 
-loop-again : tie.Need-loop-preserved invariant-loop decreases-loop
+loop-again : tie.Need-loop-k-preserved invariant-loop decreases-loop
 loop-again c =
     let put = c.before.before in
     let l = put.before.before.before.before in
     let s = l.before.before in
-    let k = l.loop.k in
+    let k = l.loop-k.k in
     let n = sixteen s in
     let j : 2 * k + 2 ≡ 2 * (k + 1) = omega arith in
-    let next = writing_as l.loop.invariant.1 (next_sample s.args.t1 k (omega arith)) in (
+    let next = writing_as l.loop-k.invariant.1 (next_sample s.args.a k (omega arith)) in (
       omega arith,
-      rw j at (writing_put next put.put-i16.ensures (answered w16 put.before.put-i16-arg2.given refl) (omega arith) (omega arith)),
+      rw j at (writing_put next put.put_i16.ensures (answered w16 put.put_i16-arg-in-loop-k-1.given refl) (omega arith) (omega arith)),
     )
 
-pub put-means-spec : {M : Type 1} → statement M
-put-means-spec = tie.close (tie.spec invariant-loop decreases-loop
-    (λ c. let n = sixteen c.before in (omega arith, writing_start _ 32 _ (omega (arith, length_encode c.before.args.t1))))
+pub put_means_spec : {M : Type 1} → statement M
+put_means_spec = tie.close (tie.spec invariant-loop decreases-loop
+    (λ c. let n = sixteen c.before in (omega arith, writing_start _ 32 _ (omega (arith, length_encode c.args.a))))
     (λ c. omega arith) (λ c. omega arith) (λ c. omega arith)
-    (λ c κs. omega (arith, c.before.before.before.loop.invariant.1.len))
+    (λ c κs. omega (arith, c.loop-k.invariant.1.len))
     (λ c. omega arith) (λ c. omega arith)
     loop-again
-    (λ c. c.before.loop.invariant.1.len)
+    (λ c. c.loop-k.invariant.1.len)
     (λ c.
     let l = c.before in
     let n = sixteen l.before.before in
-    writing_done l.loop.invariant.1 (ap encode (drop_of_length-le l.before.before.args.t1 {i = l.loop.k} (omega arith))) (omega arith)))
+    writing_done l.loop-k.invariant.1 (ap encode (drop_of_length-le l.args.a {i = l.loop-k.k} (omega arith))) (omega arith)))

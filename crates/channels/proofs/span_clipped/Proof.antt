@@ -15,37 +15,37 @@ use Rattle.channels.proofs.Counts.{sums_from, length_sums_from, sums_next, sums_
 use Rattle.channels.proofs.span_clipped.Statement.{statement}
 use Rattle.channels.proofs.span_clipped.Tie as tie
 
-abbrev invariant-loop : tie.invariant-loop
+abbrev invariant-loop : tie.invariant-loop-i
 invariant-loop a b n i₀ c₀ i c = Counting outside16 (sums_from a b) n c i
 
-abbrev decreases-loop : tie.decreases-loop
+abbrev decreases-loop : tie.decreases-loop-i
 decreases-loop a b n i₀ c₀ i c = n - i
 
-loop-again : tie.Need-loop-preserved invariant-loop decreases-loop
+loop-again : tie.Need-loop-i-preserved invariant-loop decreases-loop
 loop-again c =
     let asked = c.before in
     let get2 = asked.before in
     let get = get2.before in
     let loop = get.before.before in
     let s = loop.before.before.before in
-    let even = loop.loop.invariant.even in
-    counting-next loop.loop.invariant s.requires.0 (omega arith)
-    (sums_next s.args.a.now s.args.b.now loop.loop.i (omega arith) s.requires.1)
-    (c.one.ensures ∙ ap one (asked.sum-outside.ensures ∙ ap₂ (λ x y. outside16 (x +ℤ y)) (answered w16 get.get-i16.type-inv get.get-i16.ensures) (answered w16 get2.get-i162.type-inv get2.get-i162.ensures)))
+    let even = loop.loop-i.invariant.even in
+    counting-next loop.loop-i.invariant s.requires.0 (omega arith)
+    (sums_next s.args.a.now s.args.b.now loop.loop-i.i (omega arith) s.requires.1)
+    (c.one.ensures ∙ ap one (asked.sum_outside.ensures ∙ ap₂ (λ x y. outside16 (x +ℤ y)) (answered w16 get.get_i16.type_inv get.get_i16.ensures) (answered w16 get2.get_i16-in-loop-i.type_inv get2.get_i16-in-loop-i.ensures)))
 
 returns : tie.Need-returns invariant-loop decreases-loop
 unfolding mix_clipped
-returns c = let s = c.before.before.before.before.args in counting-end c.before.loop.invariant (sums_past s.a.now s.b.now c.before.loop.i (omega arith))
+returns c = let s = c.args in counting-end c.loop-i.invariant (sums_past s.a.now s.b.now c.loop-i.i (omega arith))
 
-pub span-clipped-spec : {M : Type 1} → statement M
-span-clipped-spec = tie.close (tie.spec invariant-loop decreases-loop
+pub span_clipped_spec : {M : Type 1} → statement M
+span_clipped_spec = tie.close (tie.spec invariant-loop decreases-loop
     (λ c. counting_start)
-    (λ c κs. let even = c.before.loop.invariant.even in omega arith)
-    (λ c κs. let even = c.before.before.loop.invariant.even in omega arith)
+    (λ c κs. let even = c.loop-i.invariant.even in omega arith)
+    (λ c κs. let even = c.loop-i.invariant.even in omega arith)
     (λ c κs. search rules)
     (λ c κs. search rules)
-    (λ c. omega (arith, c.one.ensures, one_le c.before.sum-outside.result))
-    (λ c. let s = c.before.before.before.before.before.before.before.before.args in record { fits = omega (arith, counting-fits (loop-again c), length_sums_from s.a.now s.b.now) })
+    (λ c. omega (arith, c.one.ensures, one_le c.sum_outside.result))
+    (λ c. let s = c.args in record { fits = omega (arith, counting-fits (loop-again c), length_sums_from s.a.now s.b.now) })
     (λ c. omega arith)
     (λ c. omega arith)
     loop-again

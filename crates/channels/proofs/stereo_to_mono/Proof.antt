@@ -15,10 +15,10 @@ use Rattle.channels.specs.laws.Channels.{mono-nil, mono-append, length_mono}
 use Rattle.channels.proofs.stereo_to_mono.Statement.{statement}
 use Rattle.channels.proofs.stereo_to_mono.Tie as tie
 
-abbrev invariant-loop : tie.invariant-loop
+abbrev invariant-loop : tie.invariant-loop-i
 invariant-loop input out₀ n i₀ j₀ out i j = (i ≤ n) × (i % 4 ≡ 0) × (i ≡ j * 2) × (length out ≡ length out₀) × (out ≡ written (mono_bytes (take i input)) out₀)
 
-abbrev decreases-loop : tie.decreases-loop
+abbrev decreases-loop : tie.decreases-loop-i
 decreases-loop input out₀ n i₀ j₀ out i j = n - i
 
 -- ---- what was read up to byte i
@@ -37,21 +37,21 @@ module _ (input : List ℕ) (i : ℕ) (h : i ≤ length input) (e : i % 4 ≡ 0)
   read_rest : mono_bytes (take i input) ++ mono_bytes (take (length input - i) (drop i input)) ≡ mono_bytes input
   read_rest = rw (part_to_end input i) (sym (mono-append (take i input) (drop i input) whole) ∙ ap mono_bytes (take-append-drop i input))
 
-loop-again : tie.Need-loop-preserved invariant-loop decreases-loop
+loop-again : tie.Need-loop-i-preserved invariant-loop decreases-loop
 loop-again c =
     let put = c.before.before in
     let read = put.before.before in
     let l = read.before.before.before in
-    let s = l.before.before.before.args in
+    let s = l.args in
     let input = s.input.now in
     let out₀ = s.out.now in
-    let i = l.loop.i in
+    let i = l.loop-i.i in
     let done = mono_bytes (take i input) in
     let h : i + 64 ≤ length input = omega arith in
-    let even = l.loop.invariant.1 in
+    let even = l.loop-i.invariant.1 in
     let n = length_read input i (omega arith) even in
     let next =
-    written_part done (encode read.means.result) out₀ l.loop.out _ l.loop.j (omega (arith, n)) l.loop.invariant.4 put.put-means.ensures
+    written_part done (encode read.means.result) out₀ l.loop-i.out _ l.loop-i.j (omega (arith, n)) l.loop-i.invariant.4 put.put_means.ensures
     ∙ ap (λ (x : List ℕ). written x out₀) (ap (λ (x : List ℕ). done ++ x) read.means.ensures ∙ read_more input i (omega arith) even) in
     let m = length_read input (i + 64) h (omega (arith, even)) in (
       h,
@@ -65,21 +65,21 @@ returns : tie.Need-returns invariant-loop decreases-loop
 returns c =
     let each = c.before.before in
     let l = each.before.before.before.before in
-    let s = l.before.before.before.args in
-    let i = l.loop.i in
-    let even = l.loop.invariant.1 in
+    let s = l.args in
+    let i = l.loop-i.i in
+    let even = l.loop-i.invariant.1 in
     let n = length_read s.input.now i (omega arith) even in
-    written_part (mono_bytes (take i s.input.now)) _ s.out.now l.loop.out _ l.loop.j (omega (arith, n)) l.loop.invariant.4 each.mix-down-each.ensures
+    written_part (mono_bytes (take i s.input.now)) _ s.out.now l.loop-i.out _ l.loop-i.j (omega (arith, n)) l.loop-i.invariant.4 each.mix_down_each.ensures
     ∙ ap (λ (x : List ℕ). written x s.out.now) (read_rest s.input.now i (omega arith) even)
 
-same_length : tie.Need-same-length invariant-loop decreases-loop
+same_length : tie.Need-shape_of-out invariant-loop decreases-loop
 same_length c =
     let s = c.before.before.before.before.before.before.before.before.before in
     let input = s.args.input.now in
     ap length (returns c) ∙ length_written (mono_bytes input) s.args.out.now (omega (arith, length_mono input s.requires.0))
 
-pub stereo-to-mono-spec : {M : Type 1} → statement M
-stereo-to-mono-spec = tie.close (tie.spec invariant-loop decreases-loop
+pub stereo_to_mono_spec : {M : Type 1} → statement M
+stereo_to_mono_spec = tie.close (tie.spec invariant-loop decreases-loop
     (λ c. (omega arith, refl, refl, refl, sym (rw mono-nil (written-nil _))))
     (λ c. omega arith)
     (λ c. omega arith)

@@ -15,10 +15,10 @@ returns : tie.Need-returns
 unfolding mixed
 returns c =
     let s = c.before in
-    answered w16 c.held16.type-inv (simp (to_z-of_z, s.ranges.a, s.ranges.b, (sizes s).left, (sizes s).right, (sizes s).sum) at c.held16.ensures)
+    answered w16 c.held16.type_inv (simp (to_z-of_z, s.ranges.a, s.ranges.b, (sizes s).left, (sizes s).right, (sizes s).sum) at c.held16.ensures)
 
-pub sum-i16-spec : {M : Type 1} → statement M
-sum-i16-spec = tie.close (tie.spec
+pub sum_i16_spec : {M : Type 1} → statement M
+sum_i16_spec = tie.close (tie.spec
     (λ c. simp (to_z-of_z, c.ranges.a) (sizes c).left)
     (λ c. simp (to_z-of_z, c.ranges.b) (sizes c).right)
     (λ c. simp (to_z-of_z, c.ranges.a, c.ranges.b, (sizes c).left, (sizes c).right) (sizes c).sum)

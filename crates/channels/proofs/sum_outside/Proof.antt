@@ -17,25 +17,25 @@ lowest c = room_fits (negsuc 32767) c.args.b (sfits_lit tt) c.ranges.b
 highest : (c : tie.Start) → SFits w32 (pos 32767 -ℤ c.args.b)
 highest c = room_fits (pos 32767) c.args.b (sfits_lit tt) c.ranges.b
 
-returns : tie.Need-returns
+returns : tie.Need-returns-then-b-lt0
 returns c =
     let s = c.before in
-    let e = simp (to_z-of_z, s.ranges.b) at c.if1.true in
+    let e = simp (to_z-of_z, s.ranges.b) at c.if-b-lt0.true in
     simp (to_z-of_z, s.ranges.a, s.ranges.b, (sizes s).left, (sizes s).right, lowest s) (room_below s.args.a s.args.b s.ranges.a s.ranges.b e)
 
-returns-2 : tie.Need-returns-2
+returns-2 : tie.Need-returns
 returns-2 c =
     let s = c.before in
-    let e = simp (to_z-of_z, s.ranges.b) at c.if1.false in
+    let e = simp (to_z-of_z, s.ranges.b) at c.if-b-lt0.false in
     simp (to_z-of_z, s.ranges.a, s.ranges.b, (sizes s).left, (sizes s).right, highest s) (room_above s.args.a s.args.b s.ranges.a s.ranges.b e)
 
-pub sum-outside-spec : {M : Type 1} → statement M
-sum-outside-spec = tie.close (tie.spec
-    (λ c. simp (to_z-of_z, c.before.ranges.a) (sizes c.before).left)
-    (λ c. simp (to_z-of_z, c.before.ranges.b) (sizes c.before).right)
-    (λ c. simp (to_z-of_z, c.before.ranges.b, (sizes c.before).right) (lowest c.before))
+pub sum_outside_spec : {M : Type 1} → statement M
+sum_outside_spec = tie.close (tie.spec
+    (λ c. simp (to_z-of_z, c.ranges.a) (sizes c.before).left)
+    (λ c. simp (to_z-of_z, c.ranges.b) (sizes c.before).right)
+    (λ c. simp (to_z-of_z, c.ranges.b, (sizes c.before).right) (lowest c.before))
     returns
-    (λ c. simp (to_z-of_z, c.before.ranges.a) (sizes c.before).left)
-    (λ c. simp (to_z-of_z, c.before.ranges.b) (sizes c.before).right)
-    (λ c. simp (to_z-of_z, c.before.ranges.b, (sizes c.before).right) (highest c.before))
+    (λ c. simp (to_z-of_z, c.ranges.a) (sizes c.before).left)
+    (λ c. simp (to_z-of_z, c.ranges.b) (sizes c.before).right)
+    (λ c. simp (to_z-of_z, c.ranges.b, (sizes c.before).right) (highest c.before))
     returns-2)

@@ -7,7 +7,7 @@ use Rattle.cookbook.proofs.alpha.Tie as tie
 
 returns : tie.Need-returns
 unfolding alpha_of of_bits of_int round
-returns c = ap (alpha_of c.before.args.sine) c.f32-to-f64-with-nan.ensures
+returns c = ap (alpha_of c.args.sine) c.f32_to_f64_with_nan.ensures
 
-pub alpha-spec : {M : Type 1} → statement M
-alpha-spec = tie.close (tie.spec (λ c κs. search rules) returns)
+pub alpha_spec : {M : Type 1} → statement M
+alpha_spec = tie.close (tie.spec (λ c κs. search rules) returns)

@@ -4,11 +4,11 @@ use Rattle.cookbook.specs.declared.DesignAnswer.TheVariants.{Designed}
 use Rattle.cookbook.proofs.designed.Statement.{statement}
 use Rattle.cookbook.proofs.designed.Tie as tie
 
-returns : tie.Need-returns
-returns c = rw c.before.if1.true (ap Designed c.normalise.ensures)
+returns : tie.Need-returns-then-allowed
+returns c = rw c.if-allowed.true (ap Designed c.normalise.ensures)
 
-returns-2 : tie.Need-returns-2
-returns-2 c = rw c.if1.false
+returns-2 : tie.Need-returns
+returns-2 c = rw c.if-allowed.false
 
-pub designed-spec : {M : Type 1} → statement M
-designed-spec = tie.close (tie.spec (λ c κs. search rules) returns returns-2)
+pub designed_spec : {M : Type 1} → statement M
+designed_spec = tie.close (tie.spec (λ c κs. search rules) returns returns-2)

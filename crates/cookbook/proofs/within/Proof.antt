@@ -2,5 +2,5 @@
 use Rattle.cookbook.proofs.within.Statement.{statement}
 use Rattle.cookbook.proofs.within.Tie as tie
 
-pub within-spec : {M : Type 1} → statement M
-within-spec = tie.close (tie.spec (λ c. simp c.if1.true) (λ c. simp c.if1.false))
+pub within_spec : {M : Type 1} → statement M
+within_spec = tie.close (tie.spec (λ c. simp c.if-low-x.true) (λ c. simp c.if-low-x.false))

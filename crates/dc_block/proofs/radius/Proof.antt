@@ -21,13 +21,13 @@ below rate e = leb-true rate 384000 (and_right (ltb 0 rate) (leb rate 384000) e)
     and_right false true e = refl
     and_right false false e = e
 
-int-to-float-result : tie.Need-int-to-float-result
+int-to-float-result : tie.Need-int_to_float-result
 unfolding in_float
-int-to-float-result c = le→leb c.before.args.rate 16777216 (omega (arith, below c.before.args.rate c.before.requires))
+int-to-float-result c = le→leb c.args.rate 16777216 (omega (arith, below c.args.rate c.requires))
 
 returns : tie.Need-returns
 unfolding pole_of of_bits of_int round
 returns c = refl
 
-pub radius-spec : {M : Type 1} → statement M
-radius-spec = tie.close (tie.spec int-to-float-result returns)
+pub radius_spec : {M : Type 1} → statement M
+radius_spec = tie.close (tie.spec int-to-float-result returns)

@@ -15,19 +15,19 @@ use Rattle.dc_block.proofs.Ticks.{ticked}
 use Rattle.dc_block.proofs.stereo.Statement.{statement}
 use Rattle.dc_block.proofs.stereo.Tie as tie
 
-abbrev invariant-loop : tie.invariant-loop
+abbrev invariant-loop : tie.invariant-loop-i
 invariant-loop input out₀ r memory lx1₀ ly1₀ rx1₀ ry1₀ n i₀ c₀ out lx1 ly1 rx1 ry1 i c =
     Filtering (dc_tick r) 2 (taps_at memory 0 ∷ taps_at memory 1 ∷ []) input out₀
     (record { x1 = lx1; x2 = get_or memory.x2 0 nan; y1 = ly1; y2 = get_or memory.y2 0 nan }
     ∷ record { x1 = rx1; x2 = get_or memory.x2 1 nan; y1 = ry1; y2 = get_or memory.y2 1 nan } ∷ []) out c i
 
-abbrev decreases-loop : tie.decreases-loop
+abbrev decreases-loop : tie.decreases-loop-i
 decreases-loop input out₀ r memory lx1₀ ly1₀ rx1₀ ry1₀ n i₀ c₀ out lx1 ly1 rx1 ry1 i c = n - i
 
-held : (c : tie.Start invariant-loop decreases-loop) → TwoChannels c.args.t4
+held : (c : tie.Start invariant-loop decreases-loop) → TwoChannels c.args.memory
 held c = record { x1 = search rules; x2 = search rules; y1 = search rules; y2 = search rules }
 
-loop-again : tie.Need-loop-preserved invariant-loop decreases-loop
+loop-again : tie.Need-loop-i-preserved invariant-loop decreases-loop
 loop-again c =
     let at_one = c.before.before in
     let at-put2 = at_one.before.before.before.before in
@@ -38,31 +38,31 @@ loop-again c =
     let at-get = at-get2.before.before in
     let at-loop = at-get.before.before in
     let s = at-loop.before.before.before.before.before.before.before in
-    filtering-stereo s.requires.room (search rules) s.requires.whole at-loop.loop.invariant
-    (ticked _ _ at-output.output.ensures (answered w16 at-get.get-i16.type-inv at-get.get-i16.ensures))
-    (ticked _ _ at-output2.output2.ensures (answered w16 at-get2.get-i162.type-inv at-get2.get-i162.ensures))
-    at-put.put-i16.ensures
-    (answered w16 at-put.before.rounded16.type-inv at-put.before.rounded16.ensures)
-    at-put2.put-i162.ensures
-    (answered w16 at-put2.before.rounded162.type-inv at-put2.before.rounded162.ensures)
-    (at_one.one.ensures ∙ ap one at_one.before.clipped.ensures)
-    (c.one2.ensures ∙ ap one c.before.clipped2.ensures)
+    filtering-stereo s.requires.room (search rules) s.requires.whole at-loop.loop-i.invariant
+    (ticked _ _ at-output.output-ly1.ensures (answered w16 at-get.get_i16-lx.type_inv at-get.get_i16-lx.ensures))
+    (ticked _ _ at-output2.output-ry1.ensures (answered w16 at-get2.get_i16-rx.type_inv at-get2.get_i16-rx.ensures))
+    at-put.put_i16.ensures
+    (answered w16 at-put.rounded16.type_inv at-put.rounded16.ensures)
+    at-put2.put_i16-in-loop-i.ensures
+    (answered w16 at-put2.rounded16-in-loop-i.type_inv at-put2.rounded16-in-loop-i.ensures)
+    (at_one.one.ensures ∙ ap one at_one.clipped.ensures)
+    (c.one-in-loop-i.ensures ∙ ap one c.clipped-in-loop-i.ensures)
 
 returns : tie.Need-returns invariant-loop decreases-loop
 returns c =
     let at-loop = c.before.before.before in
     let s = at-loop.before.before.before.before.before.before.before in
-    filtering_end (held s) refl at-loop.loop.invariant (omega arith)
-    (rw (← two_of s.args.t4.x2 (held s).x2, ← two_of s.args.t4.y2 (held s).y2)) refl
+    filtering_end (held s) refl at-loop.loop-i.invariant (omega arith)
+    (rw (← two_of s.args.memory.x2 (held s).x2, ← two_of s.args.memory.y2 (held s).y2)) refl
 
-pub stereo-spec : {M : Type 1} → statement M
-stereo-spec = tie.close (tie.spec invariant-loop decreases-loop
+pub stereo_spec : {M : Type 1} → statement M
+stereo_spec = tie.close (tie.spec invariant-loop decreases-loop
     (λ c. search rules) (λ c. search rules) (λ c. search rules) (λ c. search rules)
-    (λ c. filtering_start 2 c.before.before.before.before.before.before.requires.whole)
+    (λ c. filtering_start 2 c.requires.whole)
     (λ c κs. omega arith) (λ c. search rules) (λ c. search rules) (λ c κs. omega arith) (λ c. search rules) (λ c κs. search rules) (λ c κs. search rules)
     (λ c κs. search rules) (λ c κs. omega arith) (λ c. search rules) (λ c κs. search rules) (λ c κs. omega arith)
     (λ c κs. search rules) (λ c κs. search rules) (λ c κs. search rules) (λ c κs. search rules)
     (λ c. record { fits = omega (arith, (loop-again c).few) }) (λ c. record { fits = omega (arith, (loop-again c).few) }) (λ c. omega arith) (λ c. omega arith)
     loop-again
-    (λ c. c.before.before.before.loop.invariant.output.len)
+    (λ c. c.loop-i.invariant.output.len)
     returns)

@@ -20,49 +20,49 @@ module _ (f : PcmFormat) (s : Stage) {source target : List ℕ} (w : Takes f s s
 abbrev does : {n : ℕ} {source target after : List ℕ} {Does : List ℕ → List ℕ → List ℕ → Type 0} → Does source target after → TurnDoes 0 n source (halves target []) (halves after []) Does
 does d = record { does = d; other = refl }
 
-abbrev start : tie.After-struct-known → tie.Start
+abbrev start : tie.After-struct_known-1 → tie.Start
 start m = m.before.before.before.before.before.before
 
-pub taken-spec : {M : Type 1} → statement M
-taken-spec = tie.close (tie.spec
+pub taken_spec : {M : Type 1} → statement M
+taken_spec = tie.close (tie.spec
     (λ c. search rules) (λ c. search rules)
     (λ c κs. let t = c.before.before in let s = start t.before.before in
-    (gain_turn_asks s.args.format s.args.s (asks s.args.format s.args.s s.pre) _ t.kind.given.1).asks)
+    (gain_turn_asks s.args.format s.args.s (asks s.args.format s.args.s s.pre) _ t.kind-1.given.1).asks)
     (λ c. search rules)
     (λ c κs. let t = c.before in let s = start t.before.before in
-    (stereo_turn_asks s.args.format s.args.s (asks s.args.format s.args.s s.pre) t.enum_told.given.1).asks)
+    (stereo_turn_asks s.args.format s.args.s (asks s.args.format s.args.s s.pre) t.enum_told-1.given.1).asks)
     (λ c. let t = c.before.before.before.before in let s = start t.before.before in
-    record { fits = omega (arith, stereo_long s.args.format s.args.s (asks s.args.format s.args.s s.pre) t.enum_told.given.1, s.good) })
+    record { fits = omega (arith, stereo_long s.args.format s.args.s (asks s.args.format s.args.s s.pre) t.enum_told-1.given.1, s.good) })
     (λ c. search rules)
     (λ c κs. let t = c.before in let s = start t.before.before in
-    (mono_turn_asks s.args.format s.args.s (asks s.args.format s.args.s s.pre) t.enum-told2.given.1).asks)
+    (mono_turn_asks s.args.format s.args.s (asks s.args.format s.args.s s.pre) t.enum_told-in-StereoToMono-1.given.1).asks)
     (λ c. search rules) (λ c κs. search rules)
     (λ c κs. let m = c.before in let t = m.before.before in let s = start t.before.before in
-    (resample-turn-asks s.args.format s.args.s (asks s.args.format s.args.s s.pre) _ _ t.kind2.given.1 m.held-samples.ensures.0 m.held-samples.ensures.1).asks)
+    (resample-turn-asks s.args.format s.args.s (asks s.args.format s.args.s s.pre) _ _ t.kind-in-Resample-1.given.1 m.held_samples-held.ensures.0 m.held_samples-held.ensures.1).asks)
     (λ c. search rules)
     (λ c. let d = c.before.before.before.before in let m = d.before.before in let t = m.before.before in let s = start t.before.before in
-    record { fits = omega (arith, resample-long s.args.format s.args.s (asks s.args.format s.args.s s.pre) _ _ t.kind2.given.1 m.held-samples.ensures.0 m.held-samples.ensures.1 d.process2.result _ (does d.process2.ensures), s.good) })
+    record { fits = omega (arith, resample-long s.args.format s.args.s (asks s.args.format s.args.s s.pre) _ _ t.kind-in-Resample-1.given.1 m.held_samples-held.ensures.0 m.held_samples-held.ensures.1 d.process-t.result _ (does d.process-t.ensures), s.good) })
     (λ c. search rules)
     (λ c κs. let t = c.before.before in let s = start t.before.before in
-    (dc_turn_asks s.args.format s.args.s (asks s.args.format s.args.s s.pre) _ t.kind3.given.1).asks)
+    (dc_turn_asks s.args.format s.args.s (asks s.args.format s.args.s s.pre) _ t.kind-in-DcBlock-1.given.1).asks)
     (λ c. search rules)
     (λ c κs. let t = c.before.before in let s = start t.before.before in
-    (biquad_turn_asks s.args.format s.args.s (asks s.args.format s.args.s s.pre) _ t.kind4.given.1).asks)
+    (biquad_turn_asks s.args.format s.args.s (asks s.args.format s.args.s s.pre) _ t.kind-in-Biquad-1.given.1).asks)
     (λ c. search rules)
     (λ c. let d = c.before.before in let t = d.before.before.before in let s = start t.before.before in
-    (gain_turned s.args.format s.args.s (asks s.args.format s.args.s s.pre) _ _ _ t.kind.given.1 (does d.process.ensures)).does)
+    (gain_turned s.args.format s.args.s (asks s.args.format s.args.s s.pre) _ _ _ t.kind-1.given.1 (does d.process-clipped.ensures)).does)
     (λ c. search rules)
     (λ c. let d = c.before.before in let t = d.before.before in let s = start t.before.before in
-    (stereo_turned s.args.format s.args.s (asks s.args.format s.args.s s.pre) _ t.enum_told.given.1 (does d.mono-to-stereo.ensures)).does)
+    (stereo_turned s.args.format s.args.s (asks s.args.format s.args.s s.pre) _ t.enum_told-1.given.1 (does d.mono_to_stereo.ensures)).does)
     (λ c. search rules)
     (λ c. let d = c.before.before in let t = d.before.before in let s = start t.before.before in
-    (mono_turned s.args.format s.args.s (asks s.args.format s.args.s s.pre) _ t.enum-told2.given.1 (does d.stereo-to-mono.ensures)).does)
+    (mono_turned s.args.format s.args.s (asks s.args.format s.args.s s.pre) _ t.enum_told-in-StereoToMono-1.given.1 (does d.stereo_to_mono.ensures)).does)
     (λ c. search rules)
     (λ c. let d = c.before.before.before.before in let m = d.before.before in let t = m.before.before in let s = start t.before.before in
-    (resample-turned s.args.format s.args.s (asks s.args.format s.args.s s.pre) _ _ t.kind2.given.1 m.held-samples.ensures.0 m.held-samples.ensures.1 d.process2.result _ (does d.process2.ensures)).does)
+    (resample-turned s.args.format s.args.s (asks s.args.format s.args.s s.pre) _ _ t.kind-in-Resample-1.given.1 m.held_samples-held.ensures.0 m.held_samples-held.ensures.1 d.process-t.result _ (does d.process-t.ensures)).does)
     (λ c. search rules)
     (λ c. let d = c.before.before.before in let t = d.before.before.before in let s = start t.before.before in
-    (dc_turned s.args.format s.args.s (asks s.args.format s.args.s s.pre) _ _ _ t.kind3.given.1 (does d.process3.ensures)).does)
+    (dc_turned s.args.format s.args.s (asks s.args.format s.args.s s.pre) _ _ _ t.kind-in-DcBlock-1.given.1 (does d.process-t-in-DcBlock.ensures)).does)
     (λ c. search rules)
     (λ c. let d = c.before.before.before in let t = d.before.before.before in let s = start t.before.before in
-    (biquad_turned s.args.format s.args.s (asks s.args.format s.args.s s.pre) _ _ _ t.kind4.given.1 (does d.process4.ensures)).does))
+    (biquad_turned s.args.format s.args.s (asks s.args.format s.args.s s.pre) _ _ _ t.kind-in-Biquad-1.given.1 (does d.process-t-in-Biquad.ensures)).does))

@@ -50,18 +50,18 @@ module _ (r : LinearResampler) (primed : Bool) (phase n : ℕ) where
 fewer : (n o : ℕ) → (n - 1) * o ≤ n * o
 fewer n o = mul-le-mul_right o (omega arith)
 
-pub resampled-to-end-spec : {M : Type 1} → statement M
-resampled-to-end-spec = tie.close (tie.spec
-    (λ c. equal _ _ _ _ c.if1.true)
+pub resampled_to_end_spec : {M : Type 1} → statement M
+resampled_to_end_spec = tie.close (tie.spec
+    (λ c. equal _ _ _ _ c.if-r.true)
     (λ c. search rules) (λ c κs. search rules)
     (λ c. let e = c.before.before.before in let a = e.before.before.args in
-    c.up-to.ensures ∙ held a.r a.primed a.phase a.frames e.if1.false c.before.before.if2.true)
+    c.up_to.ensures ∙ held a.r a.primed a.phase a.frames e.if-r.false c.before.before.if-primed.true)
     (λ c. let e = c.before.before in let a = e.before.before.args in
-    nothing a.r a.primed a.phase a.frames e.if1.false c.before.if2.false c.if3.true)
+    nothing a.r a.primed a.phase a.frames e.if-r.false c.before.if-primed.false c.if-frames-eq0.true)
     (λ c. search rules)
     (λ c. let s = c.before.before.before.before.before in let a = s.args in
     record { fits = omega (arith, fewer a.frames a.r.out_r, s.requires) })
     (λ c κs. let s = c.before.before.before.before.before in let a = s.args in
     (s.requires.0, omega (arith, fewer a.frames a.r.out_r, s.requires)))
     (λ c. let e = c.before.before.before.before in let a = e.before.before.args in
-    c.up-to2.ensures ∙ first a.r a.primed a.phase a.frames e.if1.false c.before.before.before.if2.false c.before.before.if3.false))
+    c.up_to-2.ensures ∙ first a.r a.primed a.phase a.frames e.if-r.false c.before.before.before.if-primed.false c.before.before.if-frames-eq0.false))

@@ -7,9 +7,9 @@ use native.Mathlib.Omega.{arith}
 use Rattle.ending.proofs.up_to.Statement.{statement}
 use Rattle.ending.proofs.up_to.Tie as tie
 
-pub up-to-spec : {M : Type 1} → statement M
-up-to-spec = tie.close (tie.spec
-    (λ c. simp (lt-leb _ _ c.if1.true))
+pub up_to_spec : {M : Type 1} → statement M
+up_to_spec = tie.close (tie.spec
+    (λ c. simp (lt-leb _ _ c.if-d-p.true))
     (λ c. search rules)
     (λ c. let a = c.before.args in record { fits = omega (arith, div-le_self (a.d - a.p) a.step, c.before.requires) })
-    (λ c. simp (le-leb _ _ c.if1.false)))
+    (λ c. simp (le-leb _ _ c.if-d-p.false)))

@@ -21,7 +21,7 @@ cleared : (c reset : Pipeline) (done : EndApplied) (f : PcmFormat) (answer : Fin
 unfolding ended_as output_format
 cleared c reset done f answer l g h e = rw (e, h, g, le-leb _ _ (legal_parts c l).few)
 
-pub conclude-spec : {M : Type 1} → statement M
-conclude-spec = tie.close (tie.spec
+pub conclude_spec : {M : Type 1} → statement M
+conclude_spec = tie.close (tie.spec
     (λ c κs. search rules) (λ c κs. search rules) (λ c κs. search rules)
-    (λ c. let f = c.before in let o = f.before in cleared _ _ _ _ _ o.before.requires o.output-format.ensures f.finish_answered.ensures c.reset.ensures))
+    (λ c. let f = c.before in let o = f.before in cleared _ _ _ _ _ o.before.requires o.output_format-format.ensures f.finish_answered-answer.ensures c.reset-cleared.ensures))

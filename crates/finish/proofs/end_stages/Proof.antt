@@ -16,15 +16,15 @@ use Rattle.finish.proofs.Reaching.{EndReached, begun, served, sum_fits, next-rea
 use Rattle.finish.proofs.end_stages.Statement.{statement}
 use Rattle.finish.proofs.end_stages.Tie as tie
 
-abbrev invariant-loop : tie.invariant-loop
+abbrev invariant-loop : tie.invariant-loop-i
 invariant-loop a₀ b₀ chain count f₀ n₀ clipped₀ i₀ a b f n clipped i =
     (i ≤ count) × (count ≤ 8) × (length chain.stages ≡ 8) × (length a ≡ length a₀) × (length b ≡ length b₀)
     × EndReached chain.stages count f₀ (record { a = a₀; b = b₀ }) (shorter a₀ b₀) f n i (record { a = a; b = b }) clipped
 
-abbrev decreases-loop : tie.decreases-loop
+abbrev decreases-loop : tie.decreases-loop-i
 decreases-loop a₀ b₀ chain count f₀ n₀ clipped₀ i₀ a b f n clipped i = count - i
 
-abbrev start : tie.At-loop invariant-loop decreases-loop → tie.Start invariant-loop decreases-loop
+abbrev start : tie.At-loop-i invariant-loop decreases-loop → tie.Start invariant-loop decreases-loop
 start l = l.before.before.before.before
 
 in_a : (a b a' : List ℕ) → length a' ≡ length a → shorter a b ≤ length a'
@@ -33,61 +33,61 @@ in_a a b a' e = omega (arith, shorter_a a b)
 in_b : (a b b' : List ℕ) → length b' ≡ length b → shorter a b ≤ length b'
 in_b a b b' e = omega (arith, shorter_b a b)
 
-room_a : (l : tie.At-loop invariant-loop decreases-loop) → shorter (start l).args.a.now (start l).args.b.now ≤ length l.loop.a
-room_a l = in_a (start l).args.a.now (start l).args.b.now l.loop.a l.loop.invariant.3
+room_a : (l : tie.At-loop-i invariant-loop decreases-loop) → shorter (start l).args.a.now (start l).args.b.now ≤ length l.loop-i.a
+room_a l = in_a (start l).args.a.now (start l).args.b.now l.loop-i.a l.loop-i.invariant.3
 
-room_b : (l : tie.At-loop invariant-loop decreases-loop) → shorter (start l).args.a.now (start l).args.b.now ≤ length l.loop.b
-room_b l = in_b (start l).args.a.now (start l).args.b.now l.loop.b l.loop.invariant.4
+room_b : (l : tie.At-loop-i invariant-loop decreases-loop) → shorter (start l).args.a.now (start l).args.b.now ≤ length l.loop-i.b
+room_b l = in_b (start l).args.a.now (start l).args.b.now l.loop-i.b l.loop-i.invariant.4
 
-module _ (t : tie.After-turn invariant-loop decreases-loop) where
-  abbrev at : tie.At-loop invariant-loop decreases-loop
+module _ (t : tie.After-turn-t invariant-loop decreases-loop) where
+  abbrev at : tie.At-loop-i invariant-loop decreases-loop
   at = t.before.before.before.before.before
 
-  more : at.loop.i < (start at).args.t1.count
-  more = t.before.before.before.before.loop-test.taken
+  more : at.loop-i.i < (start at).args.chain.count
+  more = t.before.before.before.before.loop-i-test.taken
 
-  sum : at.loop.clipped + t.turn.result.clipped ≤ 38400000000000
-  sum = let v = at.loop.inv in sum_fits _ _ _ _ _ _ _ _ _ _ no_stage v.5 more v.2 v.1 (room_a at) (room_b at) t.turn.ensures.holds
+  sum : at.loop-i.clipped + t.turn-t.result.clipped ≤ 38400000000000
+  sum = let v = at.loop-i.invariant in sum_fits _ _ _ _ _ _ _ _ _ _ no_stage v.5 more v.2 v.1 (room_a at) (room_b at) t.turn-t.ensures.holds
 
-module _ (c : tie.After-format-after invariant-loop decreases-loop) where
-  abbrev turned : tie.After-turn invariant-loop decreases-loop
+module _ (c : tie.After-format_after-format invariant-loop decreases-loop) where
+  abbrev turned : tie.After-turn-t invariant-loop decreases-loop
   turned = c.before.before.before.before.before.before
 
-  abbrev l : tie.At-loop invariant-loop decreases-loop
+  abbrev l : tie.At-loop-i invariant-loop decreases-loop
   l = at turned
 
   abbrev after : Halves
-  after = record { a = turned.turn.last.1.1.1.1.0; b = turned.turn.last.1.1.1.1.1.0 }
+  after = record { a = turned.turn-t.last.1.1.1.1.0; b = turned.turn-t.last.1.1.1.1.1.0 }
 
-  sized : Sized (record { a = l.loop.a; b = l.loop.b }) after
-  sized = let v = l.loop.inv in sized-out _ _ _ _ _ _ _ _ _ _ no_stage v.5 (more turned) v.2 v.1 (room_a l) (room_b l) _ _ _ _ turned.turn.ensures c.format-after.ensures
+  sized : Sized (record { a = l.loop-i.a; b = l.loop-i.b }) after
+  sized = let v = l.loop-i.invariant in sized-out _ _ _ _ _ _ _ _ _ _ no_stage v.5 (more turned) v.2 v.1 (room_a l) (room_b l) _ _ _ _ turned.turn-t.ensures c.format_after-format.ensures
 
-  reached : EndReached (start l).args.t1.stages (start l).args.t1.count (start l).args.t1.format (record { a = (start l).args.a.now; b = (start l).args.b.now })
-      (shorter (start l).args.a.now (start l).args.b.now) c.format-after.result turned.turn.result.len (l.loop.i + 1) after (l.loop.clipped + turned.turn.result.clipped)
-  reached = let v = l.loop.inv in next-reached _ _ _ _ _ _ _ _ _ _ no_stage v.5 (more turned) v.2 v.1 (room_a l) (room_b l) _ _ _ _ turned.turn.ensures c.format-after.ensures
+  reached : EndReached (start l).args.chain.stages (start l).args.chain.count (start l).args.chain.format-1 (record { a = (start l).args.a.now; b = (start l).args.b.now })
+      (shorter (start l).args.a.now (start l).args.b.now) c.format_after-format.result turned.turn-t.result.len (l.loop-i.i + 1) after (l.loop-i.clipped + turned.turn-t.result.clipped)
+  reached = let v = l.loop-i.invariant in next-reached _ _ _ _ _ _ _ _ _ _ no_stage v.5 (more turned) v.2 v.1 (room_a l) (room_b l) _ _ _ _ turned.turn-t.ensures c.format_after-format.ensures
 
-pub end-stages-spec : {M : Type 1} → statement M
-end-stages-spec =
+pub end_stages_spec : {M : Type 1} → statement M
+end_stages_spec =
     tie.close
     (tie.spec
     invariant-loop
     decreases-loop
     (λ c.
     let s = c.before.before.before in
-    (omega arith, (legal_parts _ s.requires.chain).few, search (unmapped, rules), refl, refl, begun s.args.t1 s.args.a.now s.args.b.now s.requires))
+    (omega arith, (legal_parts _ s.requires.chain).few, search (unmapped, rules), refl, refl, begun s.args.chain s.args.a.now s.args.b.now s.requires))
     (λ c. search rules) (λ c. search rules)
     (λ c κs.
     let t = c.before.before.before in
     let l = t.before in
-    let v = l.loop.invariant in
-    (omega (arith, v.5.within, room_a l), (omega (arith, v.5.within, room_b l), served _ _ _ _ _ _ _ _ _ _ no_stage v.5 t.loop-test.true v.2 v.1 (room_a l) (room_b l))))
+    let v = l.loop-i.invariant in
+    (omega (arith, v.5.within, room_a l), (omega (arith, v.5.within, room_b l), served _ _ _ _ _ _ _ _ _ _ no_stage v.5 t.loop-i-test.true v.2 v.1 (room_a l) (room_b l))))
     (λ c. record { fits = omega (arith, sum c.before.before.before.before.before) })
     (λ c κs. search rules) (λ c. search rules) (λ c. search rules)
-    (λ c. let v = (l c).loop.invariant in (omega (arith, more (turned c)), v.1, v.2, (sized c).a ∙ v.3, (sized c).b ∙ v.4, reached c))
-    (λ c. c.before.loop.invariant.3)
-    (λ c. c.before.loop.invariant.4)
+    (λ c. let v = (l c).loop-i.invariant in (omega (arith, more (turned c)), v.1, v.2, (sized c).a-1 ∙ v.3, (sized c).b-1 ∙ v.4, reached c))
+    (λ c. c.before.loop-i.invariant.3)
+    (λ c. c.before.loop-i.invariant.4)
     (λ c.
-    let v = c.before.loop.invariant in (
-      ap₂ (λ (n m : ℕ). let d : EndApplied = record { len = n; clipped = m } in d) (ended_size _ _ _ _ _ _ _ _ _ _ v.5 c.loop-test.false) (ended_clipped _ _ _ _ _ _ _ _ _ _ v.5 c.loop-test.false),
-      ended_halves_lem _ _ _ _ _ _ _ _ _ _ v.5 c.loop-test.false,
+    let v = c.before.loop-i.invariant in (
+      ap₂ (λ (n m : ℕ). let d : EndApplied = record { len = n; clipped = m } in d) (ended_size _ _ _ _ _ _ _ _ _ _ v.5 c.loop-i-test.false) (ended_clipped _ _ _ _ _ _ _ _ _ _ v.5 c.loop-i-test.false),
+      ended_halves_lem _ _ _ _ _ _ _ _ _ _ v.5 c.loop-i-test.false,
     )))

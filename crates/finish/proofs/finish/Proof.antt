@@ -38,11 +38,11 @@ pub finish_spec : {M : Type 1} → statement M
 finish_spec = tie.close (tie.spec
     (λ c κs. search rules) (λ c κs. search rules) (λ c. search rules) (λ c. search rules)
     (λ c κs. let t = c.before.before in let q = t.before.before in let s = q.before.before.before.before in
-    finishes s.args.chain s.args.a.now s.args.b.now _ _ q.before.shorter-of.ensures q.finish-question.ensures t.enum_told.given.1)
+    finishes s.args.chain s.args.a.now s.args.b.now _ _ q.before.shorter_of-shorter.ensures q.finish_question-asked.ensures t.enum_told-1.given.1)
     (λ c. let q = c.before.before.before in let s = q.before.before.before.before in
     with_told s.args.chain s.args.a.now s.args.b.now _
-    (refused s.args.chain s.args.a.now s.args.b.now _ _ q.before.shorter-of.ensures q.finish-question.ensures _ c.before.asked.given.1))
+    (refused s.args.chain s.args.a.now s.args.b.now _ _ q.before.shorter_of-shorter.ensures q.finish_question-asked.ensures _ c.before.asked-1.given.1))
     (λ c. search rules) (λ c. search rules)
     (λ c. let p = c.before.before.before.before in let t = p.before.before.before in let q = t.before.before in let s = q.before.before.before.before in
     with_told s.args.chain s.args.a.now s.args.b.now _
-    (p.play.ensures ∙ took s.args.chain s.args.a.now s.args.b.now _ _ q.before.shorter-of.ensures q.finish-question.ensures t.enum_told.given.1)))
+    (p.play.ensures ∙ took s.args.chain s.args.a.now s.args.b.now _ _ q.before.shorter_of-shorter.ensures q.finish_question-asked.ensures t.enum_told-1.given.1)))

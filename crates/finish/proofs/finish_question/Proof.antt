@@ -15,27 +15,27 @@ use Rattle.finish.specs.laws.Stepping.{head_refused, end_is}
 use Rattle.finish.proofs.finish_question.Statement.{statement}
 use Rattle.finish.proofs.finish_question.Tie as tie
 
-module _ (c : tie.Else1) where
+module _ (c : tie.Else-not-head_legal) where
   abbrev s : tie.Start
   s = c.before.before.before
 
   head : head_legal s.args.chain.format s.args.chain.count ≡ true
-  head = sym c.before.head-legal.ensures ∙ not-false _ c.if1.false
+  head = sym c.before.head_legal.ensures ∙ not-false _ c.if-not-head_legal.false
 
   eight : length s.args.chain.stages ≡ 8
   eight = search (unmapped, rules)
 
-pub finish-question-spec : {M : Type 1} → statement M
-finish-question-spec = tie.close (tie.spec
+pub finish_question_spec : {M : Type 1} → statement M
+finish_question_spec = tie.close (tie.spec
     (λ c κs. search rules)
-    (λ c. head_refused _ _ (sym c.before.head-legal.ensures ∙ not-true _ c.if1.true))
+    (λ c. head_refused _ _ (sym c.before.head_legal.ensures ∙ not-true _ c.if-not-head_legal.true))
     (λ c κs. let a = (s c).args in (head_parts a.chain.format a.chain.count (head c)).channels)
-    (λ c κs. asks_begin _ _ _ _ _ _ _ _ (head c.before) (eight c.before) c.begun.ensures)
-    (λ c κs. c.walked.ensures.short)
+    (λ c κs. asks_begin _ _ _ _ _ _ _ _ (head c.before) (eight c.before) c.begun-start.ensures)
+    (λ c κs. c.walked-walk.ensures.short)
     (λ c.
     let w = c.before in
     let b = w.before in
     let a = (s b.before).args in
     c.verdict.ensures
-    ∙ ap end_from (w.walked.ensures.is ∙ ap (λ (x : Walk). walked Finish a.shorter x (stages_of a.chain)) b.begun.ensures)
+    ∙ ap end_from (w.walked-walk.ensures.is ∙ ap (λ (x : Walk). walked Finish a.shorter x (stages_of a.chain)) b.begun-start.ensures)
     ∙ end_is a.chain a.shorter (head b.before)))

@@ -24,9 +24,9 @@ module _ (w : Walk) where
   unfolding end_from
   placed h z = rw (h, eq-eqb w.short 0 z)
 
-pub verdict-spec : {M : Type 1} → statement M
-verdict-spec = tie.close (tie.spec
-    (λ c. not_legal _ (not-true _ c.if1.true))
+pub verdict_spec : {M : Type 1} → statement M
+verdict_spec = tie.close (tie.spec
+    (λ c. not_legal _ (not-true _ c.if-not-walk.true))
     (λ c. search rules)
-    (λ c. too_short _ (not-false _ c.before.before.before.if1.false) c.before.if2.true)
-    (λ c. placed _ (not-false _ c.before.before.if1.false) c.if2.false))
+    (λ c. too_short _ (not-false _ c.before.before.before.if-not-walk.false) c.before.if-walk-ne0.true)
+    (λ c. placed _ (not-false _ c.before.before.if-not-walk.false) c.if-walk-ne0.false))

@@ -14,10 +14,10 @@ of_number nan h = absurd h
 of_number (inf s) h = refl
 of_number (fin s m e) h = refl
 
-returns : tie.Need-returns
+returns : tie.Need-returns-then-x
 unfolding pattern_of
-returns c = sym (ap pattern_of (differs→nan c.before.args.x c.if1.true))
+returns c = sym (ap pattern_of (differs→nan c.before.args.x c.if-x.true))
 
-pub bits-of-float-spec : {M : Type 1} → statement M
-bits-of-float-spec = tie.close (tie.spec (λ c. same→not_nan c.before.args.x c.if1.false) returns
-    (λ c. of_number c.before.args.x (same→not_nan c.before.args.x c.if1.false)))
+pub bits_of_float_spec : {M : Type 1} → statement M
+bits_of_float_spec = tie.close (tie.spec (λ c. same→not_nan c.before.args.x c.if-x.false) returns
+    (λ c. of_number c.before.args.x (same→not_nan c.before.args.x c.if-x.false)))

@@ -10,7 +10,7 @@ use Rattle.floats.proofs.clipped.Tie as tie
 returns : tie.Need-returns
 returns c =
     let s = c.before in
-    ap (λ (h : Float). ne h s.args.v) c.hold16.ensures ∙ (held s.args.v (subst T (sym s.well-formed.0.1) tt)).differs
+    ap (λ (h : Float). ne h s.args.v) c.hold16.ensures ∙ (held s.args.v (subst T (sym s.well_formed.0.1) tt)).differs
 
-pub clipped-spec : {M : Type 1} → statement M
-clipped-spec = tie.close (tie.spec (λ c κs. search rules) returns)
+pub clipped_spec : {M : Type 1} → statement M
+clipped_spec = tie.close (tie.spec (λ c κs. search rules) returns)

@@ -9,5 +9,5 @@ returns : tie.Need-returns
 unfolding held_float of_bits neg
 returns c = rw (c.at_most.ensures, c.before.at_least.ensures)
 
-pub hold16-spec : {M : Type 1} → statement M
-hold16-spec = tie.close (tie.spec (λ c κs. search rules) (λ c κs. search rules) returns)
+pub hold16_spec : {M : Type 1} → statement M
+hold16_spec = tie.close (tie.spec (λ c κs. search rules) (λ c κs. search rules) returns)

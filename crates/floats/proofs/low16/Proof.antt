@@ -22,8 +22,8 @@ module _ (u : ℕ) (h : u < 65536) where
 low : (b : ℕ) → b % 65536 < 65536
 low b = omega arith
 
-pub low16-spec : {M : Type 1} → statement M
-low16-spec = tie.close (tie.spec (λ c. search rules) (λ c. search rules) (λ c. search rules)
+pub low16_spec : {M : Type 1} → statement M
+low16_spec = tie.close (tie.spec (λ c. search rules) (λ c. search rules) (λ c. search rules)
     (λ c. subst (SFits w32) (sym (lowered (c.args.b % 65536) (low c.args.b))) (sfits_widen tt (fits (c.args.b % 65536) (low c.args.b))))
     (λ c. subst (SFits w16) (sym (wide (c.args.b % 65536) (low c.args.b))) (fits (c.args.b % 65536) (low c.args.b)))
     (λ c. settled w16 (wide (c.args.b % 65536) (low c.args.b)) (fits (c.args.b % 65536) (low c.args.b))))

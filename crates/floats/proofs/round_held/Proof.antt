@@ -15,10 +15,10 @@ use Rattle.floats.proofs.round_held.Statement.{statement}
 use Rattle.floats.proofs.round_held.Tie as tie
 
 representable : (c : tie.Start) → T (fits binary32 c.args.x)
-representable c = subst T (sym c.well-formed.0.1) tt
+representable c = subst T (sym c.well_formed.0.1) tt
 
-number : (c : tie.Else1) → T (not (is_nan c.before.args.x))
-number c = same→not_nan c.before.args.x c.if1.false
+number : (c : tie.Else-x) → T (not (is_nan c.before.args.x))
+number c = same→not_nan c.before.args.x c.if-x.false
 
 -- the lesser of the magnitude and its side's limit, with its sign
 either : (t : Bool) (n low high : ℕ) → cond t (neg_ℤ (pos (min n (cond t low high)))) (pos (min n (cond t low high))) ≡ cond t (neg_ℤ (pos (min n low))) (pos (min n high))
@@ -33,10 +33,10 @@ signed-requires : tie.Need-signed-requires
 signed-requires c κs =
     let s = c.before.before.before.before in
     let b = to_bits binary32 s.args.x in
-    subst (λ (n : ℕ). n ≤ 33554432) (sym (c.least.ensures ∙ ap (min c.before.before.nearest.result) c.before.limit.ensures))
+    subst (λ (n : ℕ). n ≤ 33554432) (sym (c.least-k.ensures ∙ ap (min c.before.before.nearest.result) c.before.limit.ensures))
     (within (leb 2147483648 b) c.before.before.nearest.result s.args.low s.args.high s.requires.0 s.requires.1)
 
-returns-2 : tie.Need-returns-2
+returns-2 : tie.Need-returns
 returns-2 c =
     let least = c.before in
     let limit = least.before in
@@ -44,15 +44,15 @@ returns-2 c =
     let s = nearest.before.before in
     let b = to_bits binary32 s.args.x in
     let n = nearest.nearest.result in
-    answered w32 c.signed.type-inv
+    answered w32 c.signed.type_inv
     (c.signed.ensures
-    ∙ ap (λ (k : ℕ). cond (leb 2147483648 b) (neg_ℤ (pos k)) (pos k)) (least.least.ensures ∙ ap (min n) limit.limit.ensures)
+    ∙ ap (λ (k : ℕ). cond (leb 2147483648 b) (neg_ℤ (pos k)) (pos k)) (least.least-k.ensures ∙ ap (min n) limit.limit.ensures)
     ∙ either (leb 2147483648 b) n s.args.low s.args.high
     ∙ sym (by_sign s.args.low s.args.high s.requires.0 s.requires.1 s.args.x (representable s) (number nearest.before) n nearest.nearest.ensures))
 
-pub round-held-spec : {M : Type 1} → statement M
-round-held-spec = tie.close (tie.spec
-    (λ c. of_nan c.before.args.low c.before.args.high c.before.args.x (differs→nan c.before.args.x c.if1.true))
+pub round_held_spec : {M : Type 1} → statement M
+round_held_spec = tie.close (tie.spec
+    (λ c. of_nan c.before.args.low c.before.args.high c.before.args.x (differs→nan c.before.args.x c.if-x.true))
     (λ c. number c)
     (λ c κs. pattern_in binary32 c.before.args.x (representable c.before) (number c))
     (λ c κs. search rules) (λ c κs. search rules) signed-requires returns-2)

@@ -19,40 +19,40 @@ use Rattle.floats.proofs.Nudged.{Lowest, lowest}
 use Rattle.floats.proofs.rounded16.Statement.{statement}
 use Rattle.floats.proofs.rounded16.Tie as tie
 
-module _ (c : tie.After-hold16) where
+module _ (c : tie.After-hold16-h) where
   holds : Held c.before.args.v (held_float c.before.args.v)
-  holds = held c.before.args.v (subst T (sym c.before.well-formed.0.1) tt)
+  holds = held c.before.args.v (subst T (sym c.before.well_formed.0.1) tt)
 
-  representable : T (fits binary32 c.hold16.result)
-  representable = subst T (sym c.hold16.type-inv) tt
+  representable : T (fits binary32 c.hold16-h.result)
+  representable = subst T (sym c.hold16-h.type_inv) tt
 
-  rounds : round_sat 33554432 33554432 c.hold16.result ≡ rounded16 c.before.args.v
-  rounds = ap (round_sat 33554432 33554432) c.hold16.ensures ∙ holds.rounds
+  rounds : round_sat 33554432 33554432 c.hold16-h.result ≡ rounded16 c.before.args.v
+  rounds = ap (round_sat 33554432 33554432) c.hold16-h.ensures ∙ holds.rounds
 
-number : (c : tie.Else1) → T (not (is_nan c.before.hold16.result))
-number c = same→not_nan c.before.hold16.result c.if1.false
+number : (c : tie.Else-h) → T (not (is_nan c.before.hold16-h.result))
+number c = same→not_nan c.before.hold16-h.result c.if-h.false
 
-sum : (c : tie.Else1) → Lowest c.before.hold16.result
-sum c = lowest c.before.hold16.result (representable c.before) (number c)
-    (subst (λ (x : Float). magnitude x ≤ 32768) (sym c.before.hold16.ensures) (holds c.before).small)
+sum : (c : tie.Else-h) → Lowest c.before.hold16-h.result
+sum c = lowest c.before.hold16-h.result (representable c.before) (number c)
+    (subst (λ (x : Float). magnitude x ≤ 32768) (sym c.before.hold16-h.ensures) (holds c.before).small)
 
-float-to-float-low16 : tie.Need-float-to-float-low16
+float-to-float-low16 : tie.Need-float_to_float-h
 float-to-float-low16 c =
-    let h = c.before.before.hold16.result in
+    let h = c.before.before.hold16-h.result in
     and_i (fits binary64 h) (not (is_nan h)) (fits_widens h (representable c.before.before)) (number c.before)
 
-float-to-bits-low16 : tie.Need-float-to-bits-low16
+float-to-bits-low16 : tie.Need-float_to_bits-h
 unfolding of_bits
 float-to-bits-low16 c = (sum c.before).number
 
-returns-2 : tie.Need-returns-2
+returns-2 : tie.Need-returns
 unfolding of_bits
 returns-2 c =
     let e = c.before.before in
     let v = e.before.before.args.v in
-    answered w16 c.low16.type-inv (c.low16.ensures ∙ ap (to_z w16) ((sum e).bits ∙ ap (of_z w16) (rounds e.before)) ∙ to_z-of_z (round_fits v))
+    answered w16 c.low16.type_inv (c.low16.ensures ∙ ap (to_z w16) ((sum e).bits ∙ ap (of_z w16) (rounds e.before)) ∙ to_z-of_z (round_fits v))
 
-pub rounded16-spec : {M : Type 1} → statement M
-rounded16-spec = tie.close (tie.spec (λ c κs. search rules)
-    (λ c. of_nan 33554432 33554432 c.before.hold16.result (differs→nan c.before.hold16.result c.if1.true) ∙ rounds c.before)
+pub rounded16_spec : {M : Type 1} → statement M
+rounded16_spec = tie.close (tie.spec (λ c κs. search rules)
+    (λ c. of_nan 33554432 33554432 c.before.hold16-h.result (differs→nan c.before.hold16-h.result c.if-h.true) ∙ rounds c.before)
     float-to-float-low16 float-to-bits-low16 (λ c κs. search rules) returns-2)

@@ -62,8 +62,8 @@ module _ (k b : ℕ) (small : k ≤ 33554432) (word : b < 4294967296) where
   value : to_z w32 (of_z w32 (product (b / 2147483648))) ≡ cond (leb 2147483648 b) (neg_ℤ (pos k)) (pos k)
   value = to_z-of_z product_fits ∙ by_sign.product_is
 
-pub signed-spec : {M : Type 1} → statement M
-signed-spec = tie.close (tie.spec (λ c. search rules) (λ c. search rules)
+pub signed_spec : {M : Type 1} → statement M
+signed_spec = tie.close (tie.spec (λ c. search rules) (λ c. search rules)
     (λ c. (by_sign c.args.k c.args.b c.requires c.ranges.b.fits).twice-fits)
     (λ c. (by_sign c.args.k c.args.b c.requires c.ranges.b.fits).factor-fits)
     (λ c. product_fits c.args.k c.args.b c.requires c.ranges.b.fits)

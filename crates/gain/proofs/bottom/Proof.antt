@@ -19,8 +19,8 @@ opposite c = let n = c.args.n in ap (λ z. pos 0 -ℤ z) (to_z_pos w32 {n = n} (
 fits : (c : tie.Start) → SFits w16 (− c.args.n)
 fits c = let n = c.args.n in fits_within w16 (− n) {a = 32767} (subst (λ k. k ≤ 32767) (sym (abs_neg n)) c.requires) (lit< tt)
 
-pub bottom-spec : {M : Type 1} → statement M
-bottom-spec = tie.close (tie.spec
+pub bottom_spec : {M : Type 1} → statement M
+bottom_spec = tie.close (tie.spec
     (λ c. search rules)
     (λ c. rw (opposite c) (sfits_widen tt (fits c)))
     (λ c. rw (settled w32 (opposite c) (sfits_widen tt (fits c))) (fits c))

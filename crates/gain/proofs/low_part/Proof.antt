@@ -24,7 +24,7 @@ rest-fits s = fits_within w32 (rest s) (rest-within s) (lit< tt)
 
 difference : (c : tie.After-times) → to_z w32 (of_z w32 c.before.args.half) -ℤ to_z w32 (of_z w32 c.times.result) ≡ rest c.before
 unfolding rest
-difference c = ap₂ ◌-ℤ◌ (read_back c.before.ranges.half) (product_read c.before.args.x c.before.args.p c.before.ranges.x c.times.type-inv c.times.ensures)
+difference c = ap₂ ◌-ℤ◌ (read_back c.before.ranges.half) (product_read c.before.args.x c.before.args.p c.before.ranges.x c.times.type_inv c.times.ensures)
 
 shifted-within : (s : tie.Start) → nat_abs (floor_div (rest s) 32768) ≤ 1073725440
 shifted-within s = floor_within (rest s) 32768 (rest-within s)
@@ -36,5 +36,5 @@ returns c =
     let e = settled w32 (ap (λ z. floor_div z 32768) (settled w32 (difference c) (rest-fits s))) (fits_within w32 (floor_div (rest s) 32768) (shifted-within s) (lit< tt)) in
     (e, rw e (shifted-within s))
 
-pub low-part-spec : {M : Type 1} → statement M
-low-part-spec = tie.close (tie.spec (λ c κs. search rules) (λ c. rw (difference c) (rest-fits c.before)) returns)
+pub low_part_spec : {M : Type 1} → statement M
+low_part_spec = tie.close (tie.spec (λ c κs. search rules) (λ c. rw (difference c) (rest-fits c.before)) returns)

@@ -7,19 +7,19 @@ use Rattle.pcm.specs.Samples.{outside}
 use Rattle.gain.proofs.outside.Statement.{statement}
 use Rattle.gain.proofs.outside.Tie as tie
 
-returns : tie.Need-returns
+returns : tie.Need-returns-then-x-lo
 unfolding outside
 returns c =
     let s = c.before in
-    let e : lt_z s.args.x s.args.lo ≡ true = simp (to_z-of_z, s.ranges.x, s.ranges.lo) at c.if1.true in
+    let e : lt_z s.args.x s.args.lo ≡ true = simp (to_z-of_z, s.ranges.x, s.ranges.lo) at c.if-x-lo.true in
     rw e
 
-returns-2 : tie.Need-returns-2
+returns-2 : tie.Need-returns
 unfolding outside
 returns-2 c =
     let s = c.before in
-    let e : lt_z s.args.x s.args.lo ≡ false = simp (to_z-of_z, s.ranges.x, s.ranges.lo) at c.if1.false in
+    let e : lt_z s.args.x s.args.lo ≡ false = simp (to_z-of_z, s.ranges.x, s.ranges.lo) at c.if-x-lo.false in
     simp (to_z-of_z, s.ranges.x, s.ranges.hi, e)
 
-pub outside-spec : {M : Type 1} → statement M
-outside-spec = tie.close (tie.spec returns returns-2)
+pub outside_spec : {M : Type 1} → statement M
+outside_spec = tie.close (tie.spec returns returns-2)

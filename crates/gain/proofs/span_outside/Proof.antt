@@ -16,33 +16,33 @@ use Rattle.counting.specs.laws.Loops.{Counting, counting_start, counting-next, c
 use Rattle.gain.proofs.span_outside.Statement.{statement}
 use Rattle.gain.proofs.span_outside.Tie as tie
 
-abbrev invariant-loop : tie.invariant-loop
+abbrev invariant-loop : tie.invariant-loop-i
 invariant-loop s lo hi n i₀ c₀ i c = Counting (outside (to_z w16 lo) (to_z w16 hi)) (λ j. decode (drop j s)) n c i
 
-abbrev decreases-loop : tie.decreases-loop
+abbrev decreases-loop : tie.decreases-loop-i
 decreases-loop s lo hi n i₀ c₀ i c = n - i
 
-loop-again : tie.Need-loop-preserved invariant-loop decreases-loop
+loop-again : tie.Need-loop-i-preserved invariant-loop decreases-loop
 loop-again c =
     let asked = c.before in
     let get = asked.before in
     let loop = get.before.before in
     let s = loop.before.before in
-    let even = loop.loop.invariant.even in
-    let x = answered w16 get.get-i16.type-inv get.get-i16.ensures in
-    counting-next loop.loop.invariant s.requires.0 (omega arith)
-    (decode_next s.args.s.now loop.loop.i (omega arith) ∙ ap (λ z. z ∷ decode (drop (loop.loop.i + 2) s.args.s.now)) (sym x)) (c.one.ensures ∙ ap one asked.outside.ensures)
+    let even = loop.loop-i.invariant.even in
+    let x = answered w16 get.get_i16.type_inv get.get_i16.ensures in
+    counting-next loop.loop-i.invariant s.requires.0 (omega arith)
+    (decode_next s.args.s.now loop.loop-i.i (omega arith) ∙ ap (λ z. z ∷ decode (drop (loop.loop-i.i + 2) s.args.s.now)) (sym x)) (c.one.ensures ∙ ap one asked.outside.ensures)
 
 returns : tie.Need-returns invariant-loop decreases-loop
 returns c =
     let s = c.before.before.before in
-    counting-end c.before.loop.invariant (decode_past s.args.s.now c.before.loop.i (omega arith))
+    counting-end c.before.loop-i.invariant (decode_past s.args.s.now c.before.loop-i.i (omega arith))
     ∙ ap₂ (λ lo hi. count_of (outside lo hi) (decode s.args.s.now)) (read_back s.ranges.lo) (read_back s.ranges.hi)
 
-pub span-outside-spec : {M : Type 1} → statement M
-span-outside-spec = tie.close (tie.spec invariant-loop decreases-loop
+pub span_outside_spec : {M : Type 1} → statement M
+span_outside_spec = tie.close (tie.spec invariant-loop decreases-loop
     (λ c. counting_start)
-    (λ c κs. let even = c.before.loop.invariant.even in omega arith)
+    (λ c κs. let even = c.before.loop-i.invariant.even in omega arith)
     (λ c κs. search rules)
     (λ c κs. search rules)
     (λ c. omega (arith, c.one.ensures, one_le c.before.outside.result))

@@ -22,8 +22,8 @@ same c = to_z_pos w32 {n = c.args.k % 32768} (omega arith)
 fits : (c : tie.Start) → SFits w32 (c.args.x *ℤ pos (c.args.k % 32768))
 fits c = fits_within w32 (c.args.x *ℤ pos (c.args.k % 32768)) (product_within c.args.x c.args.k c.ranges.x) (lit< tt)
 
-pub times-spec : {M : Type 1} → statement M
-times-spec = tie.close (tie.spec
+pub times_spec : {M : Type 1} → statement M
+times_spec = tie.close (tie.spec
     (λ c. simp (to_z-of_z, c.ranges.x) (wide c))
     (λ c. search rules)
     (λ c. simp (to_z-of_z, c.ranges.x, wide c, same c) (fits c))

@@ -8,5 +8,5 @@ use mir.Facts.{to_z_pos}
 use Rattle.gain.proofs.top.Statement.{statement}
 use Rattle.gain.proofs.top.Tie as tie
 
-pub top-spec : {M : Type 1} → statement M
-top-spec = tie.close (tie.spec (λ c. search rules) (λ c. to_z_pos w16 {n = c.before.args.n} (omega arith) ∙ ap pos (omega arith)) (λ c. ap pos (omega arith)))
+pub top_spec : {M : Type 1} → statement M
+top_spec = tie.close (tie.spec (λ c. search rules) (λ c. to_z_pos w16 {n = c.before.args.n} (omega arith) ∙ ap pos (omega arith)) (λ c. ap pos (omega arith)))

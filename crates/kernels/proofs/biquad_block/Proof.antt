@@ -6,9 +6,9 @@ use Rattle.kernels.proofs.biquad_block.Tie as tie
 returns : tie.Need-returns
 returns c =
     let call = c.before.before in
-    let stage = call.before.before.before.new.ensures in
-    let memory = call.before.new2.ensures in
+    let stage = call.before.before.before.new-stage.ensures in
+    let memory = call.before.new.ensures in
     (rw (stage, memory) at call.process.ensures.bytes, rw (stage, memory) at call.process.ensures.clipped)
 
-pub biquad-block-spec : {M : Type 1} → statement M
-biquad-block-spec = tie.close (tie.spec (λ c κs. search rules) (λ c κs. search rules) (λ c κs. search rules) (λ c. search rules) returns)
+pub biquad_block_spec : {M : Type 1} → statement M
+biquad_block_spec = tie.close (tie.spec (λ c κs. search rules) (λ c κs. search rules) (λ c κs. search rules) (λ c. search rules) returns)

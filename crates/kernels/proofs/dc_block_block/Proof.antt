@@ -9,5 +9,5 @@ returns c =
     let new = call.before.new.ensures in
     (rw new at call.process.ensures.bytes, rw new at call.process.ensures.clipped)
 
-pub dc-block-block-spec : {M : Type 1} → statement M
-dc-block-block-spec = tie.close (tie.spec (λ c κs. search rules) (λ c κs. search rules) (λ c. search rules) returns)
+pub dc_block_block_spec : {M : Type 1} → statement M
+dc_block_block_spec = tie.close (tie.spec (λ c κs. search rules) (λ c κs. search rules) (λ c. search rules) returns)

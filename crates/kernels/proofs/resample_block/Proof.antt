@@ -12,5 +12,5 @@ returns c =
     let new = p.before.before.new.ensures in
     (rw new at p.process.ensures.frames_are, rw new at p.process.ensures.bytes_are)
 
-pub resample-block-spec : {M : Type 1} → statement M
-resample-block-spec = tie.close (tie.spec (λ c κs. search rules) process-requires (λ c. search rules) returns)
+pub resample_block_spec : {M : Type 1} → statement M
+resample_block_spec = tie.close (tie.spec (λ c κs. search rules) process-requires (λ c. search rules) returns)

@@ -3,5 +3,5 @@ use Rattle.mean.proofs.RoundedUp.{last_bit}
 use Rattle.mean.proofs.goes_down.Statement.{statement}
 use Rattle.mean.proofs.goes_down.Tie as tie
 
-pub goes-down-spec : {M : Type 1} → statement M
-goes-down-spec = tie.close (tie.spec (λ c. last_bit c.args.above c.ranges.above))
+pub goes_down_spec : {M : Type 1} → statement M
+goes_down_spec = tie.close (tie.spec (λ c. last_bit c.args.above c.ranges.above))

@@ -21,16 +21,16 @@ module _ (s : tie.Start) where
   sizes = summed s.args.l s.args.r s.ranges.l s.ranges.r
 
   one : SFits w32 (s.args.l +ℤ s.args.r +ℤ pos 1)
-  one = plus_one_fits s.args.l s.args.r s.fits.l s.fits.r
+  one = plus_one_fits s.args.l s.args.r s.ranges.l s.ranges.r
 
   above : SFits w16 (mean_up s.args.l s.args.r)
-  above = up_fits s.args.l s.args.r s.fits.l s.fits.r
+  above = up_fits s.args.l s.args.r s.ranges.l s.ranges.r
 
   above_wide : SFits w32 (mean_up s.args.l s.args.r)
   above_wide = sfits_widen tt above
 
 -- ---- the branch's test: the sum is odd, and `goes_down`
-module _ (c : tie.After-goes-down) where
+module _ (c : tie.After-goes_down) where
   asked : c.goes_down.result ≡ is_odd (nat_abs (mean_up c.before.args.l c.before.args.r))
   asked =
       let s = c.before in
@@ -41,31 +41,31 @@ module _ (c : tie.After-goes-down) where
   tested t e = let s = c.before in sym (ap₂ ◌&&◌ (last_bit_of_sum s.args.l s.args.r s.ranges.l s.ranges.r) asked) ∙ e
 
 -- ---- one less
-module _ (c : tie.Then1) where
+module _ (c : tie.Then-l-r) where
   below : mean_up c.before.before.args.l c.before.before.args.r -ℤ pos 1 ≡ mean c.before.before.args.l c.before.before.args.r
-  below = let s = c.before.before in mean_below s.args.l s.args.r s.ranges.l s.ranges.r (tested c.before true c.if1.true)
+  below = let s = c.before.before in mean_below s.args.l s.args.r s.ranges.l s.ranges.r (tested c.before true c.if-l-r.true)
 
   below_fits : SFits w16 (mean_up c.before.before.args.l c.before.before.args.r -ℤ pos 1)
   below_fits = let s = c.before.before in subst (SFits w16) (sym below) (mean_fits s.args.l s.args.r s.ranges.l s.ranges.r)
 
-sub-result : tie.Need-overflow-sub-result
+sub-result : tie.Need-overflow_sub-result
 sub-result c =
     let s = c.before.before in
     simp (to_z-of_z, s.ranges.l, s.ranges.r, (sizes s).left, (sizes s).right, (sizes s).sum, one s, above_wide s, above s) (below_fits c)
 
-returns : tie.Need-returns
+returns : tie.Need-returns-then-l-r
 returns c =
     let s = c.before.before in
     simp (to_z-of_z, s.ranges.l, s.ranges.r, (sizes s).left, (sizes s).right, (sizes s).sum, one s, above_wide s, above s, below_fits c) (below c)
 
-returns-2 : tie.Need-returns-2
+returns-2 : tie.Need-returns-else-l-r
 returns-2 c =
     let s = c.before.before in
     simp (to_z-of_z, s.ranges.l, s.ranges.r, (sizes s).left, (sizes s).right, (sizes s).sum, one s, above_wide s, above s)
-    (mean_above s.args.l s.args.r s.ranges.l s.ranges.r (tested c.before false c.if1.false))
+    (mean_above s.args.l s.args.r s.ranges.l s.ranges.r (tested c.before false c.if-l-r.false))
 
-pub mean-i16-spec : {M : Type 1} → statement M
-mean-i16-spec = tie.close (tie.spec
+pub mean_i16_spec : {M : Type 1} → statement M
+mean_i16_spec = tie.close (tie.spec
     (λ c. simp (to_z-of_z, c.ranges.l) (sizes c).left)
     (λ c. simp (to_z-of_z, c.ranges.r) (sizes c).right)
     (λ c. simp (to_z-of_z, c.ranges.l, c.ranges.r, (sizes c).left, (sizes c).right) (sizes c).sum)

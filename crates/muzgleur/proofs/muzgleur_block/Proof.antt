@@ -14,7 +14,7 @@ returns c =
       rw c.told.ensures (block_words p.process.result w _ p.process.ensures.1),
     )
 
-pub muzgleur-block-spec : {M : Type 1} → statement M
-muzgleur-block-spec = tie.close (tie.spec
+pub muzgleur_block_spec : {M : Type 1} → statement M
+muzgleur_block_spec = tie.close (tie.spec
     (λ c κs. search rules) (λ c κs. search rules) (λ c. search rules) (λ c. search rules) (λ c. search rules)
     returns)

@@ -5,7 +5,7 @@ use Rattle.room.specs.Room.{room_told}
 use Rattle.muzgleur.proofs.muzgleur_block_room.Statement.{statement}
 use Rattle.muzgleur.proofs.muzgleur_block_room.Tie as tie
 
-pub muzgleur-block-room-spec : {M : Type 1} → statement M
-muzgleur-block-room-spec = tie.close (tie.spec
+pub muzgleur_block_room_spec : {M : Type 1} → statement M
+muzgleur_block_room_spec = tie.close (tie.spec
     (λ c κs. search rules) (λ c κs. search rules)
     (λ c. c.told.ensures ∙ ap room_told c.before.block_room.ensures))

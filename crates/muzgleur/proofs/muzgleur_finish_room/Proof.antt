@@ -5,7 +5,7 @@ use Rattle.room.specs.Room.{room_told}
 use Rattle.muzgleur.proofs.muzgleur_finish_room.Statement.{statement}
 use Rattle.muzgleur.proofs.muzgleur_finish_room.Tie as tie
 
-pub muzgleur-finish-room-spec : {M : Type 1} → statement M
-muzgleur-finish-room-spec = tie.close (tie.spec
+pub muzgleur_finish_room_spec : {M : Type 1} → statement M
+muzgleur_finish_room_spec = tie.close (tie.spec
     (λ c κs. search rules) (λ c κs. search rules)
-    (λ c. c.told.ensures ∙ ap room_told c.before.finish-room.ensures))
+    (λ c. c.told.ensures ∙ ap room_told c.before.finish_room.ensures))

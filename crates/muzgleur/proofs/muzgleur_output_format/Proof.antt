@@ -3,7 +3,7 @@ use borrow.Author.Rules.{rules}
 use Rattle.muzgleur.proofs.muzgleur_output_format.Statement.{statement}
 use Rattle.muzgleur.proofs.muzgleur_output_format.Tie as tie
 
-pub muzgleur-output-format-spec : {M : Type 1} → statement M
-muzgleur-output-format-spec = tie.close (tie.spec
+pub muzgleur_output_format_spec : {M : Type 1} → statement M
+muzgleur_output_format_spec = tie.close (tie.spec
     (λ c κs. search rules) (λ c κs. search rules)
-    (λ c. rw (c.output-format.ensures, c.before.chain-of.ensures.0)))
+    (λ c. rw (c.output_format-format.ensures, c.before.chain_of.ensures.0)))

@@ -7,13 +7,13 @@ use Rattle.note_lines.specs.Page.{desk_verdict}
 use Rattle.note_lines.proofs.desk_question.Statement.{statement}
 use Rattle.note_lines.proofs.desk_question.Tie as tie
 
-returns : tie.Need-returns
+returns : tie.Need-returns-then-recipe-gt-MAX_RECIPE
 unfolding desk_verdict
-returns c = rw (lt-leb _ 1048576 c.if1.true)
+returns c = rw (lt-leb _ 1048576 c.if-recipe-gt-MAX_RECIPE.true)
 
-returns-2 : tie.Need-returns-2
+returns-2 : tie.Need-returns
 unfolding desk_verdict
-returns-2 c = rw (le-leb _ 1048576 c.before.if1.false) (ap (λ (o : Opened). o.verdict) c.open.ensures)
+returns-2 c = rw (le-leb _ 1048576 c.before.if-recipe-gt-MAX_RECIPE.false) (ap (λ (o : Opened). o.verdict) c.open-opened.ensures)
 
-pub desk-question-spec : {M : Type 1} → statement M
-desk-question-spec = tie.close (tie.spec returns (λ c κs. search rules) returns-2)
+pub desk_question_spec : {M : Type 1} → statement M
+desk_question_spec = tie.close (tie.spec returns (λ c κs. search rules) returns-2)

@@ -4,5 +4,5 @@ use borrow.Author.Tests.{lt-ltb, le-ltb}
 use Rattle.note_lines.proofs.digit.Statement.{statement}
 use Rattle.note_lines.proofs.digit.Tie as tie
 
-pub digit-spec : {M : Type 1} → statement M
-digit-spec = tie.close (tie.spec (λ c. search rules) (λ c. rw (lt-ltb _ _ c.if1.true)) (λ c. search rules) (λ c. rw (le-ltb _ _ c.if1.false)))
+pub digit_spec : {M : Type 1} → statement M
+digit_spec = tie.close (tie.spec (λ c. search rules) (λ c. rw (lt-ltb _ _ c.if-n-lt10.true)) (λ c. search rules) (λ c. rw (le-ltb _ _ c.if-n-lt10.false)))

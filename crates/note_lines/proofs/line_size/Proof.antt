@@ -5,10 +5,10 @@ use borrow.Author.Tests.{not-true, not-false}
 use Rattle.note_lines.proofs.line_size.Statement.{statement}
 use Rattle.note_lines.proofs.line_size.Tie as tie
 
-pub line-size-spec : {M : Type 1} → statement M
-line-size-spec = tie.close (tie.spec
+pub line_size_spec : {M : Type 1} → statement M
+line_size_spec = tie.close (tie.spec
     (λ c κs. search rules)
-    (λ c. rw (sym c.before.of-note.ensures ∙ not-true _ c.if1.true))
+    (λ c. rw (sym c.before.of_note.ensures ∙ not-true _ c.if-not-of_note.true))
     (λ c. search rules)
     (λ c. search rules)
-    (λ c. rw (sym c.before.of-note.ensures ∙ not-false _ c.if1.false)))
+    (λ c. rw (sym c.before.of_note.ensures ∙ not-false _ c.if-not-of_note.false)))

@@ -12,53 +12,53 @@ use Rattle.note_lines.proofs.Walk.{Walked, walked_start, walked_end, walked_next
 use Rattle.note_lines.proofs.lines_size.Statement.{statement}
 use Rattle.note_lines.proofs.lines_size.Tie as tie
 
-abbrev invariant-loop : tie.invariant-loop
+abbrev invariant-loop : tie.invariant-loop-at
 invariant-loop recipe size₀ at₀ size at = (done : List ℕ) × Walked recipe at done × (size ≡ length done)
 
-abbrev decreases-loop : tie.decreases-loop
+abbrev decreases-loop : tie.decreases-loop-at
 decreases-loop recipe size₀ at₀ size at = length recipe - at
 
-abbrev bytes_of : tie.At-loop invariant-loop decreases-loop → List ℕ
+abbrev bytes_of : tie.At-loop-at invariant-loop decreases-loop → List ℕ
 bytes_of l = l.before.before.args.recipe.now
 
-abbrev left_of : tie.In-loop invariant-loop decreases-loop → List ℕ
-left_of i = drop i.before.loop.at (bytes_of i.before)
+abbrev left_of : tie.In-loop-at invariant-loop decreases-loop → List ℕ
+left_of i = drop i.before.loop-at.at (bytes_of i.before)
 
-there : (i : tie.In-loop invariant-loop decreases-loop) → i.before.loop.at + (2 + length_at (left_of i)) ≤ length (bytes_of i.before)
-there i = next-within i.before.loop.invariant.1 i.loop-test.true
+there : (i : tie.In-loop-at invariant-loop decreases-loop) → i.before.loop-at.at + (2 + length_at (left_of i)) ≤ length (bytes_of i.before)
+there i = next-within i.before.loop-at.invariant.1 i.loop-at-test.true
 
-four : (i : tie.In-loop invariant-loop decreases-loop) → i.before.loop.at + 4 ≤ length (bytes_of i.before)
-four i = next_four i.before.loop.invariant.1 i.loop-test.true
+four : (i : tie.In-loop-at invariant-loop decreases-loop) → i.before.loop-at.at + 4 ≤ length (bytes_of i.before)
+four i = next_four i.before.loop-at.invariant.1 i.loop-at-test.true
 
 -- the line of the record that is left
-sized : (c : tie.After-line-size invariant-loop decreases-loop) → c.line_size.result ≡ length (line_here (left_of c.before.before.before))
+sized : (c : tie.After-line_size-size invariant-loop decreases-loop) → c.line_size-size.result ≡ length (line_here (left_of c.before.before.before))
 sized c =
     let i = c.before.before.before in
-    let w = i.before.loop.invariant.1 in
-    c.line_size.ensures
-    ∙ ap₂ (λ (k n : ℕ). cond (of_note k) (1 + 2 * n) 0) (c.before.get-u162.ensures ∙ kind-there w i.loop-test.true) c.before.before.get-u16.ensures
-    ∙ sym (line_size (left_of i) (next-whole w i.loop-test.true))
+    let w = i.before.loop-at.invariant.1 in
+    c.line_size-size.ensures
+    ∙ ap₂ (λ (k n : ℕ). cond (of_note k) (1 + 2 * n) 0) (c.before.get_u16.ensures ∙ kind-there w i.loop-at-test.true) c.before.before.get_u16-length.ensures
+    ∙ sym (line_size (left_of i) (next-whole w i.loop-at-test.true))
 
-room : (c : tie.After-line-size invariant-loop decreases-loop) → c.before.before.before.before.loop.size + c.line_size.result ≤ 2097152
+room : (c : tie.After-line_size-size invariant-loop decreases-loop) → c.before.before.before.before.loop-at.size + c.line_size-size.result ≤ 2097152
 room c =
     let i = c.before.before.before in
     let l = i.before in
     let s = l.before.before in
-    omega (arith, sized c, line-room l.loop.invariant.1 i.loop-test.true, lines_fit (bytes_of l) s.requires.0, s.requires.1, l.loop.invariant.2)
+    omega (arith, sized c, line-room l.loop-at.invariant.1 i.loop-at-test.true, lines_fit (bytes_of l) s.requires.0, s.requires.1, l.loop-at.invariant.2)
 
-loop-again : tie.Need-loop-preserved invariant-loop decreases-loop
+loop-again : tie.Need-loop-at-preserved invariant-loop decreases-loop
 loop-again c =
     let i = c.before.before.before in
     let l = i.before in
-    let w = l.loop.invariant.1 in
-    rw c.before.before.get-u16.ensures
-    (l.loop.invariant.0 ++ line_here (left_of i), walked_next w i.loop-test.true, ap₂ ◌+◌ l.loop.invariant.2 (sized c) ∙ sym (length-append l.loop.invariant.0 (line_here (left_of i))))
+    let w = l.loop-at.invariant.1 in
+    rw c.before.before.get_u16-length.ensures
+    (l.loop-at.invariant.0 ++ line_here (left_of i), walked_next w i.loop-at-test.true, ap₂ ◌+◌ l.loop-at.invariant.2 (sized c) ∙ sym (length-append l.loop-at.invariant.0 (line_here (left_of i))))
 
 returns : tie.Need-returns invariant-loop decreases-loop
-returns c = let l = c.before in l.loop.invariant.2 ∙ ap length (sym (walked_end l.loop.invariant.1 c.loop-test.false))
+returns c = let l = c.before in l.loop-at.invariant.2 ∙ ap length (sym (walked_end l.loop-at.invariant.1 c.loop-at-test.false))
 
-pub lines-size-spec : {M : Type 1} → statement M
-lines-size-spec = tie.close (tie.spec invariant-loop decreases-loop
+pub lines_size_spec : {M : Type 1} → statement M
+lines_size_spec = tie.close (tie.spec invariant-loop decreases-loop
     (λ c. ([], walked_start c.before.args.recipe.now c.before.requires.0, refl))
     (λ c κs. omega (arith, four c))
     (λ c. omega (arith, four c.before))
@@ -66,8 +66,8 @@ lines-size-spec = tie.close (tie.spec invariant-loop decreases-loop
     (λ c κs. search rules)
     (λ c. omega (arith, room c))
     (λ c. search rules)
-    (λ c. omega (arith, there c.before.before.before, c.before.before.get-u16.ensures, c.before.before.before.before.before.before.requires.1))
-    (λ c. omega (arith, there c.before.before.before, c.before.before.get-u16.ensures, c.before.before.before.before.before.before.requires.1))
-    (λ c. omega (arith, there c.before.before.before, c.before.before.get-u16.ensures, c.before.before.before.loop-test.true))
+    (λ c. omega (arith, there c.before.before.before, c.before.before.get_u16-length.ensures, c.before.before.before.before.before.before.requires.1))
+    (λ c. omega (arith, there c.before.before.before, c.before.before.get_u16-length.ensures, c.before.before.before.before.before.before.requires.1))
+    (λ c. omega (arith, there c.before.before.before, c.before.before.get_u16-length.ensures, c.before.before.before.loop-at-test.true))
     loop-again
     returns)

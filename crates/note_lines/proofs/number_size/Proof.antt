@@ -4,13 +4,13 @@ use Rattle.note_lines.specs.Page.{number_line}
 use Rattle.note_lines.proofs.number_size.Statement.{statement}
 use Rattle.note_lines.proofs.number_size.Tie as tie
 
-returns : tie.Need-returns
+returns : tie.Need-returns-then-number-lt10
 unfolding number_line
-returns c = rw (lt-ltb _ 10 c.if1.true)
+returns c = rw (lt-ltb _ 10 c.if-number-lt10.true)
 
-returns-2 : tie.Need-returns-2
+returns-2 : tie.Need-returns
 unfolding number_line
-returns-2 c = rw (le-ltb _ 10 c.if1.false)
+returns-2 c = rw (le-ltb _ 10 c.if-number-lt10.false)
 
-pub number-size-spec : {M : Type 1} → statement M
-number-size-spec = tie.close (tie.spec returns returns-2)
+pub number_size_spec : {M : Type 1} → statement M
+number_size_spec = tie.close (tie.spec returns returns-2)

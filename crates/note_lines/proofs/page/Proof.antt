@@ -17,45 +17,45 @@ use Rattle.note_lines.specs.laws.Page.{Readable, desk_readable}
 use Rattle.note_lines.proofs.page.Statement.{statement}
 use Rattle.note_lines.proofs.page.Tie as tie
 
-abbrev start : tie.After-desk-question → tie.Start
+abbrev start : tie.After-desk_question-verdict → tie.Start
 start c = c.before.before.before.before.before.before
 
 -- the questions' verdict, and the page that goes by it
 abbrev pageBytes : tie.Start → List ℕ
 pageBytes s = page_of s.args.rate.now s.args.channels.now s.args.recipe.now
 
-verdict_is : (c : tie.After-desk-question) → c.desk-question.result ≡ desk_verdict (format_of (start c).args.rate.now (start c).args.channels.now) (start c).args.recipe.now
-verdict_is c = c.desk-question.ensures ∙ ap (λ (f : PcmFormat). desk_verdict f (start c).args.recipe.now) c.before.format.ensures
+verdict_is : (c : tie.After-desk_question-verdict) → c.desk_question-verdict.result ≡ desk_verdict (format_of (start c).args.rate.now (start c).args.channels.now) (start c).args.recipe.now
+verdict_is c = c.desk_question-verdict.ensures ∙ ap (λ (f : PcmFormat). desk_verdict f (start c).args.recipe.now) c.before.format-format.ensures
 
-readable : (c : tie.After-desk-question) → Readable c.desk-question.result (start c).args.recipe.now
+readable : (c : tie.After-desk_question-verdict) → Readable c.desk_question-verdict.result (start c).args.recipe.now
 readable c = desk_readable _ _ _ (verdict_is c)
 
-page-is : (c : tie.After-desk-question) → printed c.desk-question.result (start c).args.recipe.now ≡ pageBytes (start c)
+page-is : (c : tie.After-desk_question-verdict) → printed c.desk_question-verdict.result (start c).args.recipe.now ≡ pageBytes (start c)
 unfolding page_of
 page-is c = ap (λ (v : Verdict). printed v (start c).args.recipe.now) (verdict_is c)
 
-sized : (c : tie.After-page-size) → c.page-size.result ≡ length (pageBytes (start c.before))
-sized c = c.page-size.ensures ∙ ap length (page-is c.before)
+sized : (c : tie.After-page_size-needed) → c.page_size-needed.result ≡ length (pageBytes (start c.before))
+sized c = c.page_size-needed.ensures ∙ ap length (page-is c.before)
 
 -- where room was asked: the verdict is what `require_room` answered
-asked : (c : tie.After-require-room) → let s = start c.before.before.before in room_verdict (length (pageBytes s)) (length s.args.out.now) ≡ c.require-room.result
-asked c = let s = start c.before.before.before in ap (λ (n : ℕ). room_verdict n (length s.args.out.now)) (sym (sized c.before.before)) ∙ sym c.require-room.ensures
+asked : (c : tie.After-require_room-room) → let s = start c.before.before.before in room_verdict (length (pageBytes s)) (length s.args.out.now) ≡ c.require_room-room.result
+asked c = let s = start c.before.before.before in ap (λ (n : ℕ). room_verdict n (length s.args.out.now)) (sym (sized c.before.before)) ∙ sym c.require_room-room.ensures
 
-returns : tie.Need-returns
+returns : tie.Need-returns-in-Refused
 unfolding page_call
 returns c =
     let q = c.before.before.before in
     let s = start q.before.before.before in
-    concluded (room_verdict (length (pageBytes s)) (length s.args.out.now)) (pageBytes s) s.args.out.now _ _ (Refused _) (asked q ∙ c.before.room.given.1) refl
+    concluded (room_verdict (length (pageBytes s)) (length s.args.out.now)) (pageBytes s) s.args.out.now _ _ (Refused _) (asked q ∙ c.before.room-1.given.1) refl
 
-write-page-requires : tie.Need-write-page-requires
+write-page-requires : tie.Need-write_page-requires
 write-page-requires c κs =
     let t = c.before in
     let q = t.before.before in
     let d = q.before.before.before in
-    (readable d, rw (page-is d) (room_enough _ _ (asked q ∙ t.enum_told.given.1)))
+    (readable d, rw (page-is d) (room_enough _ _ (asked q ∙ t.enum_told-1.given.1)))
 
-returns-2 : tie.Need-returns-2
+returns-2 : tie.Need-returns
 unfolding page_call
 returns-2 c =
     let w = c.before.before in
@@ -64,10 +64,10 @@ returns-2 c =
     let d = q.before.before.before in
     let s = start d in
     wrote (room_verdict (length (pageBytes s)) (length s.args.out.now)) (pageBytes s) s.args.out.now _ _ (sized q.before.before)
-    (w.write-page.ensures ∙ ap (λ (l : List ℕ). written l s.args.out.now) (page-is d)) (asked q ∙ t.enum_told.given.1)
+    (w.write_page.ensures ∙ ap (λ (l : List ℕ). written l s.args.out.now) (page-is d)) (asked q ∙ t.enum_told-1.given.1)
 
-pub page-spec : {M : Type 1} → statement M
-page-spec = tie.close (tie.spec
+pub page_spec : {M : Type 1} → statement M
+page_spec = tie.close (tie.spec
     (λ c κs. search rules)
     (λ c κs. search rules)
     (λ c κs. readable c)

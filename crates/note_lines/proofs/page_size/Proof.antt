@@ -7,17 +7,17 @@ use Rattle.note_lines.specs.Page.{number_line}
 use Rattle.note_lines.proofs.page_size.Statement.{statement}
 use Rattle.note_lines.proofs.page_size.Tie as tie
 
-lines-size-requires : tie.Need-lines-size-requires
-lines-size-requires c κs = rw c.enum_told.given.1 at c.before.before.before.requires
+lines-size-requires : tie.Need-lines_size-requires
+lines-size-requires c κs = rw c.enum_told-1.given.1 at c.before.before.before.requires
 
-returns : tie.Need-returns
-returns c = rw c.before.enum_told.given.1 c.lines-size.ensures
+returns : tie.Need-returns-in-Accepted
+returns c = rw c.before.enum_told-1.given.1 c.lines_size.ensures
 
-returns-2 : tie.Need-returns-2
-returns-2 c = rw c.before.before.before.verdict.given.1 (c.number_size.ensures ∙ ap (λ (n : ℕ). length (number_line n)) c.before.number.ensures)
+returns-2 : tie.Need-returns-in-Refused
+returns-2 c = rw c.before.before.before.verdict-1.given.1 (c.number_size.ensures ∙ ap (λ (n : ℕ). length (number_line n)) c.before.number.ensures)
 
-pub page-size-spec : {M : Type 1} → statement M
-page-size-spec = tie.close (tie.spec
+pub page_size_spec : {M : Type 1} → statement M
+page_size_spec = tie.close (tie.spec
     (λ c. search rules)
     lines-size-requires
     (λ c. search rules)

@@ -14,16 +14,16 @@ returns c =
     let h2 = t.before.before.before.before in
     let h1 = h2.before.before.before.before in
     let a = h1.before.before.before.before.args in
-    rw (t.put-text.ensures, h2.put-hex2.ensures, h1.put-hex.ensures) (line_stored a.kind a.text.now a.out.now a.to)
+    rw (t.put_text.ensures, h2.put_hex-2.ensures, h1.put_hex.ensures) (line_stored a.kind a.text.now a.out-1.now a.to)
 
-same_length : tie.Need-same-length
+same_length : tie.Need-shape_of-out
 same_length c =
     let h1 = c.before.before.before.before.before.before.before.before.before.before in
     let a = h1.before.before.before.before.args in
-    ap length (returns c) ∙ length-sets a.out.now a.to (line_of (record { kind = a.kind; text = a.text.now }))
+    ap length (returns c) ∙ length-sets a.out-1.now a.to (line_of (record { kind = a.kind; text = a.text.now }))
 
-pub put-line-spec : {M : Type 1} → statement M
-put-line-spec = tie.close (tie.spec
+pub put_line_spec : {M : Type 1} → statement M
+put_line_spec = tie.close (tie.spec
     (λ c. search rules)
     (λ c κs. search rules)
     (λ c. search rules)

@@ -13,35 +13,35 @@ use Rattle.note_lines.specs.Page.{number_line}
 use Rattle.note_lines.proofs.put_number.Statement.{statement}
 use Rattle.note_lines.proofs.put_number.Tie as tie
 
-one : (c : tie.Then1) → number_line c.before.before.args.number ≡ digit c.before.before.args.number ∷ 0x0a ∷ []
+one : (c : tie.Then-number-lt10) → number_line c.before.before.args.number ≡ digit c.before.before.args.number ∷ 0x0a ∷ []
 unfolding number_line
-one c = rw (lt-ltb _ 10 c.if1.true)
+one c = rw (lt-ltb _ 10 c.if-number-lt10.true)
 
-two : (c : tie.Else1) → number_line c.before.before.args.number ≡ digit (c.before.before.args.number / 10) ∷ digit (c.before.before.args.number % 10) ∷ 0x0a ∷ []
+two : (c : tie.Else-number-lt10) → number_line c.before.before.args.number ≡ digit (c.before.before.args.number / 10) ∷ digit (c.before.before.args.number % 10) ∷ 0x0a ∷ []
 unfolding number_line
-two c = rw (le-ltb _ 10 c.if1.false)
+two c = rw (le-ltb _ 10 c.if-number-lt10.false)
 
-room-one : (c : tie.Then1) → 2 ≤ length c.before.before.args.out.now
+room-one : (c : tie.Then-number-lt10) → 2 ≤ length c.before.before.args.out.now
 room-one c = omega (arith, c.before.before.requires.1, ap length (one c))
 
-room-two : (c : tie.Else1) → 3 ≤ length c.before.before.args.out.now
+room-two : (c : tie.Else-number-lt10) → 3 ≤ length c.before.before.args.out.now
 room-two c = omega (arith, c.before.before.requires.1, ap length (two c))
 
-returns : tie.Need-returns
+returns : tie.Need-returns-then-number-lt10
 returns c =
     let t = c.before in
     let a = t.before.before.args in
     rw c.digit.ensures (front_run (digit a.number ∷ 0x0a ∷ []) a.out.now (room-one t) ∙ ap (λ (l : List ℕ). written l a.out.now) (sym (one t)))
 
-returns-2 : tie.Need-returns-2
+returns-2 : tie.Need-returns
 returns-2 c =
     let t = c.before.before in
     let a = t.before.before.args in
-    rw (c.before.digit2.ensures, c.digit3.ensures)
+    rw (c.before.digit-2.ensures, c.digit-3.ensures)
     (front_run (digit (a.number / 10) ∷ digit (a.number % 10) ∷ 0x0a ∷ []) a.out.now (room-two t) ∙ ap (λ (l : List ℕ). written l a.out.now) (sym (two t)))
 
-pub put-number-spec : {M : Type 1} → statement M
-put-number-spec = tie.close (tie.spec
+pub put_number_spec : {M : Type 1} → statement M
+put_number_spec = tie.close (tie.spec
     (λ c. search rules)
     (λ c κs. search rules)
     (λ c. omega (arith, room-one c.before))

@@ -11,13 +11,13 @@ use Rattle.note_lines.specs.laws.Lines.{length_line}
 use Rattle.note_lines.proofs.put_record.Statement.{statement}
 use Rattle.note_lines.proofs.put_record.Tie as tie
 
-none : (c : tie.Then1) → of_note c.before.before.before.before.args.kind ≡ false
-none c = sym c.before.of-note.ensures ∙ not-true _ c.if1.true
+none : (c : tie.Then-not-of_note) → of_note c.before.before.before.before.args.kind ≡ false
+none c = sym c.before.of_note.ensures ∙ not-true _ c.if-not-of_note.true
 
-note : (c : tie.Else1) → of_note c.before.before.before.before.args.kind ≡ true
-note c = sym c.before.of-note.ensures ∙ not-false _ c.if1.false
+note : (c : tie.Else-not-of_note) → of_note c.before.before.before.before.args.kind ≡ true
+note c = sym c.before.of_note.ensures ∙ not-false _ c.if-not-of_note.false
 
-room : (c : tie.Else1) → c.before.before.before.before.args.to + (5 + 2 * length c.before.before.before.before.args.text.now) ≤ length c.before.before.before.before.args.out.now
+room : (c : tie.Else-not-of_note) → c.before.before.before.before.args.to + (5 + 2 * length c.before.before.before.before.args.text.now) ≤ length c.before.before.before.before.args.out.now
 room c =
     let s = c.before.before.before.before in
     let h = rw (note c) at s.requires in
@@ -26,18 +26,18 @@ room c =
 out-fits : (s : tie.Start) → length s.args.out.now < 2 ^ 64
 out-fits s = omega arith
 
-returns : tie.Need-returns
+returns : tie.Need-returns-then-not-of_note
 returns c = rw (none c) (refl, refl)
 
-returns-2 : tie.Need-returns-2
+returns-2 : tie.Need-returns
 returns-2 c =
     let p = c.before.before in
     let e = p.before.before in
     let a = e.before.before.before.before.args in
-    rw (note e) (sym (length_line (record { kind = a.kind; text = a.text.now })), p.put-line.ensures)
+    rw (note e) (sym (length_line (record { kind = a.kind; text = a.text.now })), p.put_line.ensures)
 
-pub put-record-spec : {M : Type 1} → statement M
-put-record-spec = tie.close (tie.spec
+pub put_record_spec : {M : Type 1} → statement M
+put_record_spec = tie.close (tie.spec
     (λ c κs. search rules)
     returns
     (λ c κs. room c.before)

@@ -9,30 +9,30 @@ use Rattle.note_lines.proofs.Stores.{hex_text, text_next}
 use Rattle.note_lines.proofs.put_text.Statement.{statement}
 use Rattle.note_lines.proofs.put_text.Tie as tie
 
-abbrev invariant-loop : tie.invariant-loop
+abbrev invariant-loop : tie.invariant-loop-i
 invariant-loop text out₀ to i₀ out i = (i ≤ length text) × (out ≡ sets out₀ to (hex_text (take i text)))
 
-abbrev decreases-loop : tie.decreases-loop
+abbrev decreases-loop : tie.decreases-loop-i
 decreases-loop text out₀ to i₀ out i = length text - i
 
-kept : (l : tie.At-loop invariant-loop decreases-loop) → length l.loop.out ≡ length l.before.before.before.args.out.now
-kept l = let a = l.before.before.before.args in ap length l.loop.invariant.1 ∙ length-sets a.out.now a.to (hex_text (take l.loop.i a.text.now))
+kept : (l : tie.At-loop-i invariant-loop decreases-loop) → length l.loop-i.out ≡ length l.before.before.before.args.out.now
+kept l = let a = l.before.before.before.args in ap length l.loop-i.invariant.1 ∙ length-sets a.out-1.now a.to (hex_text (take l.loop-i.i a.text.now))
 
-loop-again : tie.Need-loop-preserved invariant-loop decreases-loop
+loop-again : tie.Need-loop-i-preserved invariant-loop decreases-loop
 loop-again c =
     let p = c.before.before in
     let l = p.before.before.before.before in
     let a = l.before.before.before.args in
-    (search rules, p.put-hex.ensures ∙ rw l.loop.invariant.1 (text_next a.text.now a.out.now a.to l.loop.i p.before.before.before.loop-test.true))
+    (search rules, p.put_hex.ensures ∙ rw l.loop-i.invariant.1 (text_next a.text.now a.out-1.now a.to l.loop-i.i p.before.before.before.loop-i-test.true))
 
 returns : tie.Need-returns invariant-loop decreases-loop
 returns c =
     let l = c.before in
     let a = l.before.before.before.args in
-    l.loop.invariant.1 ∙ ap (λ t. sets a.out.now a.to (hex_text t)) (take_all l.loop.i a.text.now c.loop-test.false)
+    l.loop-i.invariant.1 ∙ ap (λ t. sets a.out-1.now a.to (hex_text t)) (take_all l.loop-i.i a.text.now c.loop-i-test.false)
 
-pub put-text-spec : {M : Type 1} → statement M
-put-text-spec = tie.close (tie.spec invariant-loop decreases-loop
+pub put_text_spec : {M : Type 1} → statement M
+put_text_spec = tie.close (tie.spec invariant-loop decreases-loop
     (λ c. search rules)
     (λ c. search rules)
     (λ c. let p = c.before.before.before.before.before.before.requires in omega arith)

@@ -15,20 +15,20 @@ use Rattle.note_lines.proofs.Walk.{Walked, walked_start, walked_end, walked_next
 use Rattle.note_lines.proofs.write_lines.Statement.{statement}
 use Rattle.note_lines.proofs.write_lines.Tie as tie
 
-abbrev invariant-loop : tie.invariant-loop
+abbrev invariant-loop : tie.invariant-loop-at
 invariant-loop recipe out₀ to₀ at₀ out to at = (done : List ℕ) × Walked recipe at done × (to ≡ length done) × (out ≡ sets out₀ 0 done)
 
-abbrev decreases-loop : tie.decreases-loop
+abbrev decreases-loop : tie.decreases-loop-at
 decreases-loop recipe out₀ to₀ at₀ out to at = length recipe - at
 
-abbrev entry : tie.At-loop invariant-loop decreases-loop → tie.Start invariant-loop decreases-loop
+abbrev entry : tie.At-loop-at invariant-loop decreases-loop → tie.Start invariant-loop decreases-loop
 entry l = l.before.before.before
 
-abbrev bytes_of : tie.At-loop invariant-loop decreases-loop → List ℕ
+abbrev bytes_of : tie.At-loop-at invariant-loop decreases-loop → List ℕ
 bytes_of l = (entry l).args.recipe.now
 
-abbrev left_of : tie.In-loop invariant-loop decreases-loop → List ℕ
-left_of i = drop i.before.loop.at (bytes_of i.before)
+abbrev left_of : tie.In-loop-at invariant-loop decreases-loop → List ℕ
+left_of i = drop i.before.loop-at.at (bytes_of i.before)
 
 bytes_fit : (s : tie.Start invariant-loop decreases-loop) → length s.args.recipe.now < 2 ^ 64
 bytes_fit s = omega arith
@@ -36,62 +36,62 @@ bytes_fit s = omega arith
 room_fits : (s : tie.Start invariant-loop decreases-loop) → length s.args.out.now < 2 ^ 64
 room_fits s = omega arith
 
-there : (i : tie.In-loop invariant-loop decreases-loop) → i.before.loop.at + (2 + length_at (left_of i)) ≤ length (bytes_of i.before)
-there i = next-within i.before.loop.invariant.1 i.loop-test.true
+there : (i : tie.In-loop-at invariant-loop decreases-loop) → i.before.loop-at.at + (2 + length_at (left_of i)) ≤ length (bytes_of i.before)
+there i = next-within i.before.loop-at.invariant.1 i.loop-at-test.true
 
-four : (i : tie.In-loop invariant-loop decreases-loop) → i.before.loop.at + 4 ≤ length (bytes_of i.before)
-four i = next_four i.before.loop.invariant.1 i.loop-test.true
+four : (i : tie.In-loop-at invariant-loop decreases-loop) → i.before.loop-at.at + 4 ≤ length (bytes_of i.before)
+four i = next_four i.before.loop-at.invariant.1 i.loop-at-test.true
 
-two : (i : tie.In-loop invariant-loop decreases-loop) → 2 ≤ length_at (left_of i)
-two i = (next-whole i.before.loop.invariant.1 i.loop-test.true).two
+two : (i : tie.In-loop-at invariant-loop decreases-loop) → 2 ≤ length_at (left_of i)
+two i = (next-whole i.before.loop-at.invariant.1 i.loop-at-test.true).two
 
-kept : (l : tie.At-loop invariant-loop decreases-loop) → length l.loop.out ≡ length (entry l).args.out.now
-kept l = ap length l.loop.invariant.3 ∙ length-sets (entry l).args.out.now 0 l.loop.invariant.0
+kept : (l : tie.At-loop-at invariant-loop decreases-loop) → length l.loop-at.out ≡ length (entry l).args.out.now
+kept l = ap length l.loop-at.invariant.3 ∙ length-sets (entry l).args.out.now 0 l.loop-at.invariant.0
 
 -- the line has room
-room : (i : tie.In-loop invariant-loop decreases-loop) → i.before.loop.to + length (line_here (left_of i)) ≤ length (entry i.before).args.out.now
+room : (i : tie.In-loop-at invariant-loop decreases-loop) → i.before.loop-at.to + length (line_here (left_of i)) ≤ length (entry i.before).args.out.now
 room i =
     let l = i.before in
-    omega (arith, line-room l.loop.invariant.1 i.loop-test.true, (entry l).requires.1, l.loop.invariant.2)
+    omega (arith, line-room l.loop-at.invariant.1 i.loop-at-test.true, (entry l).requires.1, l.loop-at.invariant.2)
 
 -- the length, the kind and the bytes after it that were read
-length_is : (c : tie.After-get-u162 invariant-loop decreases-loop) → c.before.get-u16.result ≡ length_at (left_of c.before.before)
-length_is c = c.before.get-u16.ensures
+length_is : (c : tie.After-get_u16-kind invariant-loop decreases-loop) → c.before.get_u16.result ≡ length_at (left_of c.before.before)
+length_is c = c.before.get_u16.ensures
 
-line-is : (c : tie.After-get-u162 invariant-loop decreases-loop)
-    → line_if c.get-u162.result
-    (take (c.before.before.before.loop.at + (2 + c.before.get-u16.result) - (c.before.before.before.loop.at + 4)) (drop (c.before.before.before.loop.at + 4) (bytes_of c.before.before.before)))
+line-is : (c : tie.After-get_u16-kind invariant-loop decreases-loop)
+    → line_if c.get_u16-kind.result
+    (take (c.before.before.before.loop-at.at + (2 + c.before.get_u16.result) - (c.before.before.before.loop-at.at + 4)) (drop (c.before.before.before.loop-at.at + 4) (bytes_of c.before.before.before)))
     ≡ line_here (left_of c.before.before)
 line-is c =
     let i = c.before.before in
-    let w = i.before.loop.invariant.1 in
-    ap₂ line_if (c.get-u162.ensures ∙ kind-there w i.loop-test.true) (rw (length_is c) (text-there w i.loop-test.true))
+    let w = i.before.loop-at.invariant.1 in
+    ap₂ line_if (c.get_u16-kind.ensures ∙ kind-there w i.loop-at-test.true) (rw (length_is c) (text-there w i.loop-at-test.true))
 
 returns : tie.Need-returns invariant-loop decreases-loop
 returns c =
     let l = c.before in
     let s = entry l in
-    let e = walked_end l.loop.invariant.1 c.loop-test.false in
-    l.loop.invariant.3 ∙ ap (sets s.args.out.now 0) (sym e) ∙ front_run (lines_of (bytes_of l)) s.args.out.now s.pre.1
+    let e = walked_end l.loop-at.invariant.1 c.loop-at-test.false in
+    l.loop-at.invariant.3 ∙ ap (sets s.args.out.now 0) (sym e) ∙ front_run (lines_of (bytes_of l)) s.args.out.now s.pre.1
 
-loop-again : tie.Need-loop-preserved invariant-loop decreases-loop
+loop-again : tie.Need-loop-at-preserved invariant-loop decreases-loop
 loop-again c =
     let p = c.before.before in
     let g = p.before.before.before in
     let i = g.before.before in
     let l = i.before in
-    let done = l.loop.invariant.0 in
+    let done = l.loop-at.invariant.0 in
     let line = line_here (left_of i) in
     let out = (entry l).args.out.now in
-    let e : l.loop.to ≡ 0 + length done = omega (arith, l.loop.invariant.2) in
-    let stored = p.put_record.ensures.1
-    ∙ ap₂ (λ (o x : List ℕ). sets o l.loop.to x) l.loop.invariant.3 (line-is g)
+    let e : l.loop-at.to ≡ 0 + length done = omega (arith, l.loop-at.invariant.2) in
+    let stored = p.put_record-to.ensures.1
+    ∙ ap₂ (λ (o x : List ℕ). sets o l.loop-at.to x) l.loop-at.invariant.3 (line-is g)
     ∙ ap (λ (k : ℕ). sets (sets out 0 done) k line) e ∙ sym (sets_append done line out 0) in
-    let size = ap₂ ◌+◌ l.loop.invariant.2 (p.put_record.ensures.0 ∙ ap length (line-is g)) ∙ sym (length-append done line) in
-    rw (length_is g) (done ++ line, walked_next l.loop.invariant.1 i.loop-test.true, size, stored)
+    let size = ap₂ ◌+◌ l.loop-at.invariant.2 (p.put_record-to.ensures.0 ∙ ap length (line-is g)) ∙ sym (length-append done line) in
+    rw (length_is g) (done ++ line, walked_next l.loop-at.invariant.1 i.loop-at-test.true, size, stored)
 
-pub write-lines-spec : {M : Type 1} → statement M
-write-lines-spec = tie.close (tie.spec invariant-loop decreases-loop
+pub write_lines_spec : {M : Type 1} → statement M
+write_lines_spec = tie.close (tie.spec invariant-loop decreases-loop
     (λ c. ([], walked_start c.before.before.args.recipe.now c.before.before.requires.0, refl, refl))
     (λ c κs. omega (arith, four c))
     (λ c. search rules)
@@ -104,8 +104,8 @@ write-lines-spec = tie.close (tie.spec invariant-loop decreases-loop
     (λ c. omega (arith, two c.before.before, length_is c))
     (λ c. omega (arith, there c.before.before, length_is c))
     (λ c κs. let g = c.before.before in let i = g.before.before in omega (arith, room i, kept i.before, ap length (line-is g)))
-    (λ c. let p = c.before.before in let g = p.before.before.before in let i = g.before.before in omega (arith, room i, p.put_record.ensures.0, ap length (line-is g), room_fits (entry i.before)))
-    (λ c. let g = c.before.before.before.before.before in let i = g.before.before in omega (arith, there i, length_is g, i.loop-test.true))
+    (λ c. let p = c.before.before in let g = p.before.before.before in let i = g.before.before in omega (arith, room i, p.put_record-to.ensures.0, ap length (line-is g), room_fits (entry i.before)))
+    (λ c. let g = c.before.before.before.before.before in let i = g.before.before in omega (arith, there i, length_is g, i.loop-at-test.true))
     loop-again
     (λ c. kept c.before)
     returns)

@@ -9,32 +9,32 @@ use Rattle.pcm.specs.laws.Refusals.{number_within}
 use Rattle.note_lines.proofs.write_page.Statement.{statement}
 use Rattle.note_lines.proofs.write_page.Tie as tie
 
-write-lines-requires : tie.Need-write-lines-requires
+write-lines-requires : tie.Need-write_lines-requires
 write-lines-requires c κs =
     let t = c.before in
-    let p = rw t.enum_told.given.1 at t.before.before.before.before.requires in
+    let p = rw t.enum_told-1.given.1 at t.before.before.before.before.requires in
     (p.0.0, p.1)
 
-put-number-requires : tie.Need-put-number-requires
+put-number-requires : tie.Need-put_number-requires
 put-number-requires c κs =
     let t = c.before.before.before in
-    let p = rw t.verdict.given.1 at t.before.before.before.before.requires in
-    rw c.before.number.ensures ((number_within t.verdict.given.0.0).1, p.1)
+    let p = rw t.verdict-1.given.1 at t.before.before.before.before.requires in
+    rw c.before.number.ensures ((number_within t.verdict-1.given.0.0).1, p.1)
 
-returns : tie.Need-returns
+returns : tie.Need-returns-in-Accepted
 returns c =
     let w = c.before.before in
-    rw w.before.before.enum_told.given.1 w.write-lines.ensures
+    rw w.before.before.enum_told-1.given.1 w.write_lines.ensures
 
-returns-2 : tie.Need-returns-2
+returns-2 : tie.Need-returns-in-Refused
 returns-2 c =
     let w = c.before.before in
     let n = w.before.before in
     let s = n.before.before.before.before.before.before in
-    rw n.before.before.verdict.given.1 (w.put-number.ensures ∙ ap (λ (k : ℕ). written (number_line k) s.args.out.now) n.number.ensures)
+    rw n.before.before.verdict-1.given.1 (w.put_number.ensures ∙ ap (λ (k : ℕ). written (number_line k) s.args.out.now) n.number.ensures)
 
-pub write-page-spec : {M : Type 1} → statement M
-write-page-spec = tie.close (tie.spec
+pub write_page_spec : {M : Type 1} → statement M
+write_page_spec = tie.close (tie.spec
     (λ c. search rules)
     write-lines-requires
     (λ c. search rules)

@@ -27,36 +27,36 @@ written_refused e = let z : ◌≡◌ {A = ℕ} 0 1 = cc in omega arith
 written_count : {n m : ℕ} → answer.Written n ≡ answer.Written m → n ≡ m
 written_count e = cc
 
-module _ (c : tie.After-page) where
+module _ (c : tie.After-page-answer) where
   abbrev start : tie.Start
   start = c.before.before.before.before.before.before
 
   abbrev bytes : List ℕ
   bytes = page_of start.args.rate.now start.args.channels.now start.args.recipe.now
 
-  whole : outcome c.page.result c.page.new.1.1.1.0 ≡ outcome (answer.Written (length bytes)) (written bytes start.args.out.now)
-  whole = c.page.ensures.0 ∙ page_written start.args.rate.now start.args.channels.now start.args.recipe.now start.args.out.now start.pre.0 start.pre.1
+  whole : outcome c.page-answer.result c.page-answer.new.1.1.1.0 ≡ outcome (answer.Written (length bytes)) (written bytes start.args.out.now)
+  whole = c.page-answer.ensures.0 ∙ page_written start.args.rate.now start.args.channels.now start.args.recipe.now start.args.out.now start.pre.0 start.pre.1
 
-  answered : c.page.result ≡ answer.Written (length bytes)
-  answered = ap (λ (o : WriteOutcome). o.answer) whole
+  answered : c.page-answer.result ≡ answer.Written (length bytes)
+  answered = ap (λ (o : WriteOutcome). o.answer-1) whole
 
-  front : take (length bytes) c.page.new.1.1.1.0 ≡ bytes
+  front : take (length bytes) c.page-answer.new.1.1.1.0 ≡ bytes
   unfolding written
-  front = ap (λ (o : WriteOutcome). take (length bytes) o.out) whole ∙ take_at bytes _ (length bytes) refl
+  front = ap (λ (o : WriteOutcome). take (length bytes) o.out-1) whole ∙ take_at bytes _ (length bytes) refl
 
-  counted : IsPrefixLen (length bytes) c.page.new.1.1.1.0
-  counted = let l = ap length front in (omega (arith, l, length-take (length bytes) c.page.new.1.1.1.0), sym l)
+  counted : IsPrefixLen (length bytes) c.page-answer.new.1.1.1.0
+  counted = let l = ap length front in (omega (arith, l, length-take (length bytes) c.page-answer.new.1.1.1.0), sym l)
 
-returns : tie.Need-returns
-returns c = absurd (written_refused (sym (answered c.before.before.before.before) ∙ c.enum_told.given.1))
+returns : tie.Need-returns-in_default
+returns c = absurd (written_refused (sym (answered c.before.before.before.before) ∙ c.enum_told-1.given.1))
 
-returns-2 : tie.Need-returns-2
+returns-2 : tie.Need-returns
 returns-2 c =
     let p = c.before.before.before.before.before in
-    rw (written_count (sym c.before.answer.given.1 ∙ answered p)) (counted p, front p)
+    rw (written_count (sym c.before.answer-1.given.1 ∙ answered p)) (counted p, front p)
 
-pub fill-page-spec : {M : Type 1} → statement M
-fill-page-spec = tie.close (tie.spec
+pub fill_page_spec : {M : Type 1} → statement M
+fill_page_spec = tie.close (tie.spec
     (λ c κs. search rules)
     (λ c. search rules)
     (λ c. search rules)

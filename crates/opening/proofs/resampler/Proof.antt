@@ -14,18 +14,18 @@ use Rattle.opening.proofs.resampler.Tie as tie
 made_refused : {r : LinearResampler} {x : Error} → New.Made r ≡ New.Refused x → ⊥
 made_refused e = let z : ◌≡◌ {A = ℕ} 0 1 = cc in omega arith
 
-returns : tie.Need-returns
+returns : tie.Need-returns-in_default
 returns c =
     let a = c.before.before.before.args in
-    absurd (made_refused (sym (opened_made a.in-rate a.out-rate c.before.before.before.requires) ∙ sym c.before.before.new.ensures.0 ∙ c.enum_told.given.1))
+    absurd (made_refused (sym (opened_made a.in_rate a.out_rate c.before.before.before.requires) ∙ sym c.before.before.new-made.ensures.0 ∙ c.enum_told-1.given.1))
 
-returns-2 : tie.Need-returns-2
+returns-2 : tie.Need-returns
 returns-2 c =
     let s = c.before.before.before.before in
-    let e = opened_made s.args.in-rate s.args.out-rate s.requires in
-    let m = c.before.before.before.new.ensures.0 in
-    let t = c.before.made.given.1 in
+    let e = opened_made s.args.in_rate s.args.out_rate s.requires in
+    let m = c.before.before.before.new-made.ensures.0 in
+    let t = c.before.made-1.given.1 in
     cc
 
-pub resampler-spec : {M : Type 1} → statement M
-resampler-spec = tie.close (tie.spec (λ c κs. search rules) (λ c. search rules) (λ c. search rules) returns returns-2)
+pub resampler_spec : {M : Type 1} → statement M
+resampler_spec = tie.close (tie.spec (λ c κs. search rules) (λ c. search rules) (λ c. search rules) returns returns-2)

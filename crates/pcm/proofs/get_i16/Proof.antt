@@ -8,7 +8,7 @@ use Rattle.pcm.proofs.get_i16.Tie as tie
 
 returns : tie.Need-returns
 unfolding sample_at
-returns c = answered w16 c.sample.type-inv c.sample.ensures
+returns c = answered w16 c.sample.type_inv c.sample.ensures
 
-pub get-i16-spec : {M : Type 1} → statement M
-get-i16-spec = tie.close (tie.spec (λ c. search rules) (λ c. search rules) (λ c. search rules) (λ c κs. search rules) returns)
+pub get_i16_spec : {M : Type 1} → statement M
+get_i16_spec = tie.close (tie.spec (λ c. search rules) (λ c. search rules) (λ c. search rules) (λ c κs. search rules) returns)

@@ -8,13 +8,13 @@ use Rattle.pcm.specs.laws.Samples.{tested_low, tested_high, tested_inside, held_
 use Rattle.pcm.proofs.held16.Statement.{statement}
 use Rattle.pcm.proofs.held16.Tie as tie
 
-pub held16-spec : {M : Type 1} → statement M
-held16-spec = tie.close (tie.spec
-    (λ c. tested_low w32 (negsuc 32767) (pos 32767) c.before.args.v c.before.ranges.v c.if1.true)
-    (λ c. let s = c.before.before in tested_high w32 (negsuc 32767) (pos 32767) s.args.v s.ranges.v c.before.if1.false c.if2.true)
+pub held16_spec : {M : Type 1} → statement M
+held16_spec = tie.close (tie.spec
+    (λ c. tested_low w32 (negsuc 32767) (pos 32767) c.before.args.v c.before.ranges.v c.if-v-ltminus32768.true)
+    (λ c. let s = c.before.before in tested_high w32 (negsuc 32767) (pos 32767) s.args.v s.ranges.v c.before.if-v-ltminus32768.false c.if-v-gt32767.true)
     (λ c.
     let s = c.before.before in
-    subst (SFits w16) (sym (tested_inside w32 (negsuc 32767) (pos 32767) s.args.v s.ranges.v c.before.if1.false c.if2.false)) (held_fits s.args.v))
+    subst (SFits w16) (sym (tested_inside w32 (negsuc 32767) (pos 32767) s.args.v s.ranges.v c.before.if-v-ltminus32768.false c.if-v-gt32767.false)) (held_fits s.args.v))
     (λ c.
     let s = c.before.before in
-    settled w16 (tested_inside w32 (negsuc 32767) (pos 32767) s.args.v s.ranges.v c.before.if1.false c.if2.false) (held_fits s.args.v)))
+    settled w16 (tested_inside w32 (negsuc 32767) (pos 32767) s.args.v s.ranges.v c.before.if-v-ltminus32768.false c.if-v-gt32767.false) (held_fits s.args.v)))

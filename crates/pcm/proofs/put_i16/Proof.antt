@@ -20,6 +20,6 @@ returns : tie.Need-returns
 unfolding stored low_of high_of
 returns c = ap (λ (u : ℕ). set (set c.args.s.now c.args.i (u % 256)) (c.args.i + 1) (u / 256)) (up_bits _ c.args.v (widened c) c.ranges.v)
 
-pub put-i16-spec : {M : Type 1} → statement M
-put-i16-spec = tie.close (tie.spec (λ c. rw (read_back c.ranges.v) (sfits_widen tt c.ranges.v)) (λ c. up_fits _ c.args.v (widened c) c.ranges.v) (λ c. up_cast _ c.args.v (widened c) c.ranges.v)
+pub put_i16_spec : {M : Type 1} → statement M
+put_i16_spec = tie.close (tie.spec (λ c. rw (read_back c.ranges.v) (sfits_widen tt c.ranges.v)) (λ c. up_fits _ c.args.v (widened c) c.ranges.v) (λ c. up_cast _ c.args.v (widened c) c.ranges.v)
     (λ c. search rules) (λ c. search rules) (λ c. search rules) (λ c. search rules) (λ c. search rules) (λ c. search rules) returns)

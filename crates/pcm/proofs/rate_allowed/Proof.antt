@@ -6,13 +6,13 @@ use Rattle.pcm.specs.Formats.{rate_allowed}
 use Rattle.pcm.proofs.rate_allowed.Statement.{statement}
 use Rattle.pcm.proofs.rate_allowed.Tie as tie
 
-returns : tie.Need-returns
+returns : tie.Need-returns-then-rate-eq0
 unfolding rate_allowed
-returns c = rw c.if1.true
+returns c = rw c.if-rate-eq0.true
 
-returns-2 : tie.Need-returns-2
+returns-2 : tie.Need-returns
 unfolding rate_allowed
 returns-2 c = let h : 0 < c.before.args.rate = omega arith in rw (lt-ltb _ _ h)
 
-pub rate-allowed-spec : {M : Type 1} → statement M
-rate-allowed-spec = tie.close (tie.spec returns returns-2)
+pub rate_allowed_spec : {M : Type 1} → statement M
+rate_allowed_spec = tie.close (tie.spec returns returns-2)

@@ -4,13 +4,13 @@ use Rattle.pcm.specs.Refusals.{room_verdict}
 use Rattle.pcm.proofs.require_room.Statement.{statement}
 use Rattle.pcm.proofs.require_room.Tie as tie
 
-returns : tie.Need-returns
+returns : tie.Need-returns-then-out-needed
 unfolding room_verdict
-returns c = simp (lt-leb _ _ c.if1.true)
+returns c = simp (lt-leb _ _ c.if-out-needed.true)
 
-returns-2 : tie.Need-returns-2
+returns-2 : tie.Need-returns
 unfolding room_verdict
-returns-2 c = simp (le-leb _ _ c.if1.false)
+returns-2 c = simp (le-leb _ _ c.if-out-needed.false)
 
-pub require-room-spec : {M : Type 1} → statement M
-require-room-spec = tie.close (tie.spec returns returns-2)
+pub require_room_spec : {M : Type 1} → statement M
+require_room_spec = tie.close (tie.spec returns returns-2)

@@ -6,7 +6,7 @@ use Rattle.pipeline.proofs.unopened.Tie as tie
 
 returns : tie.Need-returns
 unfolding chain_of
-returns c = rw c.no_stages.ensures
+returns c = rw c.no_stages-stages.ensures
 
-pub unopened-spec : {M : Type 1} → statement M
-unopened-spec = tie.close (tie.spec (λ c κs. search rules) returns)
+pub unopened_spec : {M : Type 1} → statement M
+unopened_spec = tie.close (tie.spec (λ c κs. search rules) returns)

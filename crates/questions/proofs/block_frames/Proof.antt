@@ -18,8 +18,8 @@ module _ (f : PcmFormat) (size : ℕ) where
   unfolding block_frames
   some frame e h = rw (h, e)
 
-pub block-frames-spec : {M : Type 1} → statement M
-block-frames-spec = tie.close (tie.spec
+pub block_frames_spec : {M : Type 1} → statement M
+block_frames_spec = tie.close (tie.spec
     (λ c κs. search rules) (λ c. search rules) (λ c. search rules) (λ c κs. search rules) (λ c. search rules)
-    (λ c. none _ _ _ (sym c.before.before.size-question.ensures ∙ c.enum_told.given.1))
-    (λ c. some _ _ _ c.frame-bytes.ensures (sym c.before.before.before.size-question.ensures ∙ c.before.enum-told2.given.1)))
+    (λ c. none _ _ _ (sym c.before.before.size_question-asked.ensures ∙ c.enum_told-1.given.1))
+    (λ c. some _ _ _ c.frame_bytes.ensures (sym c.before.before.before.size_question-asked.ensures ∙ c.before.enum_told-in-Accepted-1.given.1)))

@@ -19,8 +19,8 @@ module _ (shorter short room : ℕ) where
   unfolding first_short
   not_held z h = rw (eq-eqb short 0 z, lt-leb room shorter h)
 
-pub first-short-spec : {M : Type 1} → statement M
-first-short-spec = tie.close (tie.spec
-    (λ c. known _ _ _ c.if1.true)
-    (λ c. held _ _ _ c.before.if1.false c.if2.true)
-    (λ c. not_held _ _ _ c.before.if1.false c.if2.false))
+pub first_short_spec : {M : Type 1} → statement M
+first_short_spec = tie.close (tie.spec
+    (λ c. known _ _ _ c.if-short-ne0.true)
+    (λ c. held _ _ _ c.before.if-short-ne0.false c.if-room-shorter.true)
+    (λ c. not_held _ _ _ c.before.if-short-ne0.false c.if-room-shorter.false))

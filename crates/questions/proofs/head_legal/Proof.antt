@@ -4,8 +4,8 @@ use borrow.Author.Tests.{le-leb, lt-leb}
 use Rattle.questions.proofs.head_legal.Statement.{statement}
 use Rattle.questions.proofs.head_legal.Tie as tie
 
-pub head-legal-spec : {M : Type 1} → statement M
-head-legal-spec = tie.close (tie.spec
-    (λ c. rw (lt-leb _ 8 c.if1.true))
+pub head_legal_spec : {M : Type 1} → statement M
+head_legal_spec = tie.close (tie.spec
+    (λ c. rw (lt-leb _ 8 c.if-count-gt8.true))
     (λ c κs. search rules)
-    (λ c. rw (le-leb _ 8 c.before.if1.false) c.allowed.ensures))
+    (λ c. rw (le-leb _ 8 c.before.if-count-gt8.false) c.allowed.ensures))

@@ -30,16 +30,16 @@ module _ (w : Walk) (s : Stage) (q : Question) (shorter : ℕ) (f : PcmFormat) (
   fits : w.frames ≤ 2400000000000 → (0 < w.format.channels) × (w.format.channels ≤ 2) → Bounded s.kind → d.wanted * g ≤ 3688000000000000000
   fits a b c = rw room_is (room_fits q w s a b c)
 
-pub onward-spec : {M : Type 1} → statement M
-onward-spec = tie.close (tie.spec
+pub onward_spec : {M : Type 1} → statement M
+onward_spec = tie.close (tie.spec
     (λ c κs. search rules) (λ c κs. search rules) (λ c κs. search rules)
     (λ c.
     let d = c.before.before in
     let s = d.before.before.before in
-    record { fits = omega (arith, fits s.args.walk s.args.s s.args.question 0 _ _ _ d.before.format-after.ensures d.stage-due.ensures c.before.frame-bytes.ensures s.requires.0.0 s.requires.0.1 s.requires.1) })
+    record { fits = omega (arith, fits s.args.walk s.args.s s.args.question 0 _ _ _ d.before.format_after-format.ensures d.stage_due-d.ensures c.before.frame_bytes.ensures s.requires.0.0 s.requires.0.1 s.requires.1) })
     (λ c κs. search rules) (λ c κs. search rules)
     (λ c.
     let d = c.before.before.before.before in
     let s = d.before.before.before in
-    walk_is s.args.walk s.args.s s.args.question s.args.shorter _ _ _ d.before.format-after.ensures d.stage-due.ensures c.before.before.before.frame-bytes.ensures
-    _ _ c.before.larger-of.ensures c.first_short.ensures))
+    walk_is s.args.walk s.args.s s.args.question s.args.shorter _ _ _ d.before.format_after-format.ensures d.stage_due-d.ensures c.before.before.before.frame_bytes.ensures
+    _ _ c.before.larger_of.ensures c.first_short.ensures))

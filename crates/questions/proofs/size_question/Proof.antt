@@ -33,12 +33,12 @@ module _ (f : PcmFormat) (size frame : ℕ) (e : frame ≡ f.channels * 2) where
       unfolding size_verdict
       fitting m = rw (lt-ltb 0 size some, ← e, eq-eqb (size % frame) 0 w, le-leb (size / frame) 8192 m)
 
-pub size-question-spec : {M : Type 1} → statement M
-size-question-spec = tie.close (tie.spec
+pub size_question_spec : {M : Type 1} → statement M
+size_question_spec = tie.close (tie.spec
     (λ c κs. search rules)
-    (λ c. none _ _ _ c.before.frame-bytes.ensures c.if1.true)
+    (λ c. none _ _ _ c.before.frame_bytes-frame.ensures c.if-size-eq0.true)
     (λ c. search rules)
-    (λ c. ragged _ _ _ c.before.before.frame-bytes.ensures c.before.if1.false c.if2.true)
+    (λ c. ragged _ _ _ c.before.before.frame_bytes-frame.ensures c.before.if-size-eq0.false c.if-size-frame-ne0.true)
     (λ c. search rules)
-    (λ c. long _ _ _ c.before.before.before.frame-bytes.ensures c.before.before.if1.false c.before.if2.false c.if3.true)
-    (λ c. fitting _ _ _ c.before.before.before.frame-bytes.ensures c.before.before.if1.false c.before.if2.false c.if3.false))
+    (λ c. long _ _ _ c.before.before.before.frame_bytes-frame.ensures c.before.before.if-size-eq0.false c.before.if-size-frame-ne0.false c.if-size-frame-gt-MAX_FRAMES.true)
+    (λ c. fitting _ _ _ c.before.before.before.frame_bytes-frame.ensures c.before.before.if-size-eq0.false c.before.if-size-frame-ne0.false c.if-size-frame-gt-MAX_FRAMES.false))

@@ -21,8 +21,8 @@ module _ (f : PcmFormat) (size : ℕ) (w : Walk) where
   unfolding sized_from
   not_legal h = rw h
 
-pub sized-spec : {M : Type 1} → statement M
-sized-spec = tie.close (tie.spec
+pub sized_spec : {M : Type 1} → statement M
+sized_spec = tie.close (tie.spec
     (λ c κs. search rules)
-    (λ c. by_size _ _ _ _ c.before.if1.true c.size-question.ensures)
-    (λ c. not_legal _ _ _ c.if1.false))
+    (λ c. by_size _ _ _ _ c.before.if-walk.true c.size_question.ensures)
+    (λ c. not_legal _ _ _ c.if-walk.false))

@@ -3,13 +3,13 @@ use Rattle.rates.specs.Rates.{start}
 use Rattle.rates.proofs.first_position.Statement.{statement}
 use Rattle.rates.proofs.first_position.Tie as tie
 
-returns : tie.Need-returns
+returns : tie.Need-returns-then-primed
 unfolding start
-returns c = rw c.if1.true
+returns c = rw c.if-primed.true
 
-returns-2 : tie.Need-returns-2
+returns-2 : tie.Need-returns
 unfolding start
-returns-2 c = rw c.if1.false
+returns-2 c = rw c.if-primed.false
 
-pub first-position-spec : {M : Type 1} → statement M
-first-position-spec = tie.close (tie.spec returns returns-2)
+pub first_position_spec : {M : Type 1} → statement M
+first_position_spec = tie.close (tie.spec returns returns-2)

@@ -5,5 +5,5 @@ use native.Mathlib.Nat.{div-one}
 use Rattle.rates.proofs.quotient.Statement.{statement}
 use Rattle.rates.proofs.quotient.Tie as tie
 
-pub quotient-spec : {M : Type 1} → statement M
-quotient-spec = tie.close (tie.spec (λ c. rw c.if1.true (sym (div-one c.before.args.rate))) (λ c. search rules) (λ c. search rules))
+pub quotient_spec : {M : Type 1} → statement M
+quotient_spec = tie.close (tie.spec (λ c. rw c.if-divisor-eq1.true (sym (div-one c.before.args.rate))) (λ c. search rules) (λ c. search rules))

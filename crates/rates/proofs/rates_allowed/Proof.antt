@@ -5,13 +5,13 @@ use Rattle.rates.specs.Rates.{rates_allowed}
 use Rattle.rates.proofs.rates_allowed.Statement.{statement}
 use Rattle.rates.proofs.rates_allowed.Tie as tie
 
-returns : tie.Need-returns
+returns : tie.Need-returns-then-rate_allowed
 unfolding rates_allowed
-returns c = rw (sym c.before.before.rate-allowed.ensures ∙ c.before.if1.true) c.rate-allowed2.ensures
+returns c = rw (sym c.before.before.rate_allowed.ensures ∙ c.before.if-rate_allowed.true) c.rate_allowed-then-rate_allowed.ensures
 
-returns-2 : tie.Need-returns-2
+returns-2 : tie.Need-returns
 unfolding rates_allowed
-returns-2 c = rw (sym c.before.rate-allowed.ensures ∙ c.if1.false)
+returns-2 c = rw (sym c.before.rate_allowed.ensures ∙ c.if-rate_allowed.false)
 
-pub rates-allowed-spec : {M : Type 1} → statement M
-rates-allowed-spec = tie.close (tie.spec (λ c κs. search rules) (λ c κs. search rules) returns returns-2)
+pub rates_allowed_spec : {M : Type 1} → statement M
+rates_allowed_spec = tie.close (tie.spec (λ c κs. search rules) (λ c κs. search rules) returns returns-2)

@@ -3,8 +3,8 @@ use Rattle.recipe.proofs.Records.{last_kind}
 use Rattle.recipe.proofs.field_count.Statement.{statement}
 use Rattle.recipe.proofs.field_count.Tie as tie
 
-returns-6 : tie.Need-returns-6
-returns-6 c = let r = c.match.rest in rw (last_kind c.before.args.kind c.before.requires r.0.0.0.0.1 r.0.0.0.1 r.0.0.1 r.0.1 r.1)
+returns-6 : tie.Need-returns-in_default
+returns-6 c = let r = c.in-1.rest in rw (last_kind c.before.args.kind c.before.requires r.0.0.0.0.1 r.0.0.0.1 r.0.0.1 r.0.1 r.1)
 
-pub field-count-spec : {M : Type 1} → statement M
-field-count-spec = tie.close (tie.spec (λ c. rw c.match.keys1) (λ c. rw c.match.keys2) (λ c. rw c.match.keys3) (λ c. rw c.match.keys4) (λ c. rw c.match.keys5) returns-6)
+pub field_count_spec : {M : Type 1} → statement M
+field_count_spec = tie.close (tie.spec (λ c. rw c.in-1.keys1) (λ c. rw c.in-1.keys2) (λ c. rw c.in-1.keys3) (λ c. rw c.in-1.keys4) (λ c. rw c.in-1.keys5) returns-6)

@@ -11,29 +11,29 @@ use Rattle.recipe.proofs.Records.{few_fields}
 use Rattle.recipe.proofs.length_question.Statement.{statement}
 use Rattle.recipe.proofs.length_question.Tie as tie
 
-note : (c : tie.Then1) → of_note c.before.before.args.kind ≡ true
-note c = sym c.before.of-note.ensures ∙ c.if1.true
+note : (c : tie.Then-of_note) → of_note c.before.before.args.kind ≡ true
+note c = sym c.before.of_note.ensures ∙ c.if-of_note.true
 
-no_note : (c : tie.Else1) → of_note c.before.before.args.kind ≡ false
-no_note c = sym c.before.of-note.ensures ∙ c.if1.false
+no_note : (c : tie.Else-of_note) → of_note c.before.before.args.kind ≡ false
+no_note c = sym c.before.of_note.ensures ∙ c.if-of_note.false
 
-due : (c : tie.After-field-count) → 2 + 4 * c.field-count.result ≡ 2 + 4 * field_count c.before.before.before.args.kind
-due c = ap (λ (n : ℕ). 2 + 4 * n) c.field-count.ensures
+due : (c : tie.After-field_count) → 2 + 4 * c.field_count.result ≡ 2 + 4 * field_count c.before.before.before.args.kind
+due c = ap (λ (n : ℕ). 2 + 4 * n) c.field_count.ensures
 
-returns : tie.Need-returns
-returns c = rw (note c.before, lt-leb _ 66 c.if2.true)
+returns : tie.Need-returns-then-length-gt66
+returns c = rw (note c.before, lt-leb _ 66 c.if-length-gt66.true)
 
-returns-2 : tie.Need-returns-2
-returns-2 c = rw (note c.before, le-leb _ 66 c.if2.false)
+returns-2 : tie.Need-returns-then-of_note
+returns-2 c = rw (note c.before, le-leb _ 66 c.if-length-gt66.false)
 
-returns-3 : tie.Need-returns-3
-returns-3 c = rw (no_note c.before.before, ne_eqb _ _ (λ q. c.if3.true (q ∙ sym (due c.before))))
+returns-3 : tie.Need-returns-then-length-field_count
+returns-3 c = rw (no_note c.before.before, ne_eqb _ _ (λ q. c.if-length-field_count.true (q ∙ sym (due c.before))))
 
-returns-4 : tie.Need-returns-4
-returns-4 c = rw (no_note c.before.before, eq-eqb _ _ (c.if3.false ∙ due c.before))
+returns-4 : tie.Need-returns
+returns-4 c = rw (no_note c.before.before, eq-eqb _ _ (c.if-length-field_count.false ∙ due c.before))
 
-pub length-question-spec : {M : Type 1} → statement M
-length-question-spec = tie.close (tie.spec
+pub length_question_spec : {M : Type 1} → statement M
+length_question_spec = tie.close (tie.spec
     (λ c κs. search rules)
     returns
     returns-2

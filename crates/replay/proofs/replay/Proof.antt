@@ -7,23 +7,23 @@ use lib.ListN.{length}
 use Rattle.replay.proofs.replay.Statement.{statement}
 use Rattle.replay.proofs.replay.Tie as tie
 
-abbrev invariant-loop : tie.invariant-loop
+abbrev invariant-loop : tie.invariant-loop-turns
 invariant-loop sound₀ a₀ b₀ chain₀ turns₀ sound a b chain turns = (length sound ≡ length sound₀) × (length a ≡ length a₀) × (length b ≡ length b₀)
 
-abbrev decreases-loop : tie.decreases-loop
+abbrev decreases-loop : tie.decreases-loop-turns
 decreases-loop sound₀ a₀ b₀ chain₀ turns₀ sound a b chain turns = turns
 
-sub-turns : tie.Need-overflow-sub-turns invariant-loop decreases-loop
+sub-turns : tie.Need-overflow_sub-turns invariant-loop decreases-loop
 sub-turns c = omega arith
 
-loop-less : tie.Need-loop-smaller invariant-loop decreases-loop
+loop-less : tie.Need-loop-turns-smaller invariant-loop decreases-loop
 loop-less c = omega arith
 
-loop-again : tie.Need-loop-preserved invariant-loop decreases-loop
+loop-again : tie.Need-loop-turns-preserved invariant-loop decreases-loop
 loop-again c = (search rules, search rules, search rules)
 
-pub replay-spec : {M : Type 1} → statement M
-replay-spec = tie.close (tie.spec invariant-loop decreases-loop (λ c. search rules) (λ c κs. tt) (λ c. (refl, refl, refl)) (λ c κs. tt)
+pub replay_spec : {M : Type 1} → statement M
+replay_spec = tie.close (tie.spec invariant-loop decreases-loop (λ c. search rules) (λ c κs. tt) (λ c. (refl, refl, refl)) (λ c κs. tt)
     (λ c. search rules) (λ c. search rules) (λ c. search rules) (λ c. tt)
     sub-turns loop-less loop-again
     (λ c. search rules) (λ c. search rules) (λ c. search rules) (λ c. tt))

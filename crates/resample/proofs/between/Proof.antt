@@ -9,21 +9,21 @@ use Rattle.resample.proofs.Stage.{earlier_first, earlier_inside}
 use Rattle.resample.proofs.between.Statement.{statement}
 use Rattle.resample.proofs.between.Tie as tie
 
-returns : tie.Need-returns
+returns : tie.Need-returns-then-i-width
 returns c =
     let g = c.before.before in
     let s = g.before.before in
     let a = s.args in
-    answered w16 c.interpolate.type-inv c.interpolate.ensures
-    ∙ ap₂ (λ (x y : ℤ). interpolated x y a.f) (read_back s.ranges.last ∙ sym (earlier_first a.input.now a.last a.i a.width c.before.if1.true)) (answered w16 g.get-i16.type-inv g.get-i16.ensures)
+    answered w16 c.interpolate.type_inv c.interpolate.ensures
+    ∙ ap₂ (λ (x y : ℤ). interpolated x y a.f) (read_back s.ranges.last ∙ sym (earlier_first a.input.now a.last a.i a.width c.if-i-width.true)) (answered w16 g.get_i16-b.type_inv g.get_i16-b.ensures)
 
-returns-2 : tie.Need-returns-2
+returns-2 : tie.Need-returns
 returns-2 c =
     let h = c.before in
     let g = h.before.before in
-    let a = g.before.before.args in
-    answered w16 c.interpolate2.type-inv c.interpolate2.ensures
-    ∙ ap₂ (λ (x y : ℤ). interpolated x y a.f) (answered w16 h.get-i162.type-inv h.get-i162.ensures ∙ sym (earlier_inside a.input.now a.last a.i a.width h.before.if1.false)) (answered w16 g.get-i16.type-inv g.get-i16.ensures)
+    let a = g.args in
+    answered w16 c.interpolate-2.type_inv c.interpolate-2.ensures
+    ∙ ap₂ (λ (x y : ℤ). interpolated x y a.f) (answered w16 h.get_i16.type_inv h.get_i16.ensures ∙ sym (earlier_inside a.input.now a.last a.i a.width h.if-i-width.false)) (answered w16 g.get_i16-b.type_inv g.get_i16-b.ensures)
 
-pub between-spec : {M : Type 1} → statement M
-between-spec = tie.close (tie.spec (λ c κs. search rules) (λ c κs. search rules) returns (λ c κs. search rules) (λ c κs. search rules) returns-2)
+pub between_spec : {M : Type 1} → statement M
+between_spec = tie.close (tie.spec (λ c κs. search rules) (λ c κs. search rules) returns (λ c κs. search rules) (λ c κs. search rules) returns-2)

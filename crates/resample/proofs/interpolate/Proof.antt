@@ -45,7 +45,7 @@ steps c =
       sum = interpolated_fits a b f c.requires c.ranges.a c.ranges.b;
     }
 
-cast-result-2 : tie.Need-overflow-cast-result-2
+cast-result-2 : tie.Need-overflow_cast-result-2
 cast-result-2 c =
     let s = steps c in
     rw (s.wide_a, s.wide_b, read_back s.difference, read_back s.factor, read_back s.product, read_back s.rounded, read_back s.quotient, read_back (sfits_widen {w = w16} {w' = w64} tt s.sum)) s.sum
@@ -56,8 +56,8 @@ returns c =
     let s = steps c in
     rw (s.wide_a, s.wide_b, read_back s.difference, read_back s.factor, read_back s.product, read_back s.rounded, read_back s.quotient, read_back (sfits_widen {w = w16} {w' = w64} tt s.sum), read_back s.sum)
 
-pub interpolate-spec : {M : Type 1} → statement M
-interpolate-spec = tie.close (tie.spec
+pub interpolate_spec : {M : Type 1} → statement M
+interpolate_spec = tie.close (tie.spec
     (λ c. rw (read_back c.ranges.a) (sfits_widen tt c.ranges.a))
     (λ c. rw (read_back c.ranges.b) (sfits_widen tt c.ranges.b))
     (λ c. let s = steps c in rw (s.wide_a, s.wide_b) s.difference)

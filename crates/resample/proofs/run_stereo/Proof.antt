@@ -22,10 +22,10 @@ use Rattle.resample.proofs.run_stereo.Tie as tie
 abbrev stereo_outputs : ℕ → ℕ → ℕ → ℤ → ℤ → List ℕ → List Frame
 stereo_outputs i o num left right input = outputs_from i o num ((left ∷ right ∷ []) ∷ frames_of 2 input)
 
-abbrev invariant-loop : tie.invariant-loop
+abbrev invariant-loop : tie.invariant-loop-at
 invariant-loop input out₀ left right num in_r out_r n step at₀ k₀ out at k = Progress 2 in_r out_r num (stereo_outputs in_r out_r num (to_z w16 left) (to_z w16 right) input) out₀ out k at
 
-abbrev decreases-loop : tie.decreases-loop
+abbrev decreases-loop : tie.decreases-loop-at
 decreases-loop input out₀ left right num in_r out_r n step at₀ k₀ out at k = length (stereo_outputs in_r out_r num (to_z w16 left) (to_z w16 right) input) - k
 
 abbrev left-of : tie.Start invariant-loop decreases-loop → ℤ
@@ -40,81 +40,81 @@ outputs-of s = stereo_outputs s.args.in_r s.args.out_r s.args.num (left-of s) (r
 ready : (s : tie.Start invariant-loop decreases-loop) → Ready 2 s.args.in_r s.args.out_r (outputs-of s) s.args.input.now s.args.out.now
 ready s = rw (read_back s.ranges.left, read_back s.ranges.right) s.requires
 
-due-turn : (c : tie.Then1 invariant-loop decreases-loop) → let s = c.before.before.before.before.before.before.before in Turn 4 c.before.before.loop.k (length (outputs-of s)) (length c.before.before.loop.out)
-due-turn c = let s = c.before.before.before.before.before.before.before in turn 2 _ _ _ _ _ _ (ready s) c.before.before.loop.invariant s.well-formed.1.0.0 c.if1.true
+due-turn : (c : tie.In-loop-at invariant-loop decreases-loop) → let s = c.before.before.before.before.before.before.before in Turn 4 c.loop-at.k (length (outputs-of s)) (length c.loop-at.out)
+due-turn c = let s = c.before.before.before.before.before.before.before in turn 2 _ _ _ _ _ _ (ready s) c.loop-at.invariant s.well_formed.1.0.0 c.loop-at-test.true
 
 -- the frame's first sample is written, and its second is next
-abbrev right-sample : tie.Then1 invariant-loop decreases-loop → ℤ
+abbrev right-sample : tie.In-loop-at invariant-loop decreases-loop → ℤ
 right-sample b =
     let s = b.before.before.before.before.before.before.before in
-    let l = b.before.before.loop in
+    let l = b.loop-at in
     interpolated (earlier_of s.args.input.now (right_of s) (l.at.frame * 4 + 2) 4) (sample_at s.args.input.now (l.at.frame * 4 + 2)) l.at.frac
 
-half : (c : tie.After-put-i16 invariant-loop decreases-loop) → let b = c.before.before.before.before in let s = b.before.before.before.before.before.before.before in let l = b.before.before.loop in
-    Writing (written (bytes_of (outputs-of s)) s.args.out.now) (low_of (right-sample b) ∷ high_of (right-sample b) ∷ bytes_of (drop (suc l.k) (outputs-of s))) (length (outputs-of s) * 4) s.args.out.now c.put-i16.new.0 (l.k * 4 + 2)
+half : (c : tie.After-put_i16 invariant-loop decreases-loop) → let b = c.before.before.before.before in let s = b.before.before.before.before.before.before.before in let l = b.loop-at in
+    Writing (written (bytes_of (outputs-of s)) s.args.out.now) (low_of (right-sample b) ∷ high_of (right-sample b) ∷ bytes_of (drop (suc l.k) (outputs-of s))) (length (outputs-of s) * 4) s.args.out.now c.put_i16.new.s (l.k * 4 + 2)
 half c =
     let b = c.before.before.before.before in
     let s = b.before.before.before.before.before.before.before in
-    let l = b.before.before.loop in
+    let l = b.loop-at in
     let a = s.args in
     let r = ready s in
     let fs : List Frame = outputs-of s in
     let y : ℤ = interpolated (earlier_of a.input.now (left-of s) (l.at.frame * 4) 4) (sample_at a.input.now (l.at.frame * 4)) l.at.frac in
     let z : ℤ = right-sample b in
     let e : bytes_of (drop l.k fs) ≡ low_of y ∷ high_of y ∷ low_of z ∷ high_of z ∷ bytes_of (drop (suc l.k) fs) =
-    ap bytes_of (next-frame 2 _ _ _ _ _ _ r l.invariant b.if1.true
-    ∙ ap (λ (f : Frame). f ∷ drop (suc l.k) fs) (stereo_frame (left-of s) (right_of s) a.input.now r.whole a.out_r (a.num + l.k * a.in_r) l.at l.invariant.place b.if1.true))
+    ap bytes_of (next-frame 2 _ _ _ _ _ _ r l.invariant b.loop-at-test.true
+    ∙ ap (λ (f : Frame). f ∷ drop (suc l.k) fs) (stereo_frame (left-of s) (right_of s) a.input.now r.whole a.out_r (a.num + l.k * a.in_r) l.at l.invariant.place b.loop-at-test.true))
     ∙ bytes_stereo y z (drop (suc l.k) fs) in
     let t = due-turn b in
-    let first = c.before.before.before.between in
-    writing_put (writing_as l.invariant.bytes e) c.put-i16.ensures (answered w16 first.type-inv first.ensures) (omega (arith, t.more)) r.room
+    let first = c.between-y in
+    writing_put (writing_as l.invariant.bytes e) c.put_i16.ensures (answered w16 first.type_inv first.ensures) (omega (arith, t.more)) r.room
 
-put-i16-requires-2 : tie.Need-put-i16-requires-2 invariant-loop decreases-loop
+put-i16-requires-2 : tie.Need-put_i16-requires-in-loop-at invariant-loop decreases-loop
 put-i16-requires-2 c κs =
     let w = c.before.before.before in
     let b = w.before.before.before.before in
     let t = due-turn b in
-    omega (arith, t.more, t.fits, (half w).len, b.before.before.loop.invariant.bytes.len)
+    omega (arith, t.more, t.fits, (half w).len, b.loop-at.invariant.bytes.len)
 
-advance-requires : tie.Need-advance-requires invariant-loop decreases-loop
+advance-requires : tie.Need-advance-at-requires invariant-loop decreases-loop
 advance-requires c κs =
     let b = c.before.before.before.before.before.before.before.before.before.before in
     let s = b.before.before.before.before.before.before.before in
-    let step = b.before.before.before.before.new in
-    advance-ready 2 _ _ _ _ _ _ (ready s) b.before.before.loop.invariant step.result (omega (arith, s.well-formed.0.1)) b.if1.true step.ensures
+    let step = b.new-step in
+    advance-ready 2 _ _ _ _ _ _ (ready s) b.loop-at.invariant step.result (omega (arith, s.well_formed.0.1)) b.loop-at-test.true step.ensures
 
-loop-again : tie.Need-loop-preserved invariant-loop decreases-loop
+loop-again : tie.Need-loop-at-preserved invariant-loop decreases-loop
 loop-again c =
     let second = c.before.before.before in
     let w = second.before.before.before.before in
     let b = w.before.before.before.before in
-    let l = b.before.before.loop in
-    let step = b.before.before.before.before.new in
+    let l = b.loop-at in
+    let step = b.new-step in
     let s = b.before.before.before.before.before.before.before in
     let a = s.args in
     let r = ready s in
     let t = due-turn b in
-    let z = w.before.before.between2 in
+    let z = w.between-z in
     let e : l.k * 4 + 2 + 2 ≡ l.k * 4 + 4 = omega arith in
-    progress-next 2 _ _ _ _ _ _ r l.invariant b.if1.true
-    (at_sum a.out_r (a.num + l.k * a.in_r) a.in_r l.at step.result c.advance.result l.invariant.place step.ensures c.advance.ensures)
-    (rw e at (writing_put (half w) second.put-i162.ensures (answered w16 z.type-inv z.ensures) (omega (arith, t.more)) r.room))
+    progress-next 2 _ _ _ _ _ _ r l.invariant b.loop-at-test.true
+    (at_sum a.out_r (a.num + l.k * a.in_r) a.in_r l.at step.result c.advance-at.result l.invariant.place step.ensures c.advance-at.ensures)
+    (rw e at (writing_put (half w) second.put_i16-in-loop-at.ensures (answered w16 z.type_inv z.ensures) (omega (arith, t.more)) r.room))
 
 returns : tie.Need-returns invariant-loop decreases-loop
 returns c =
     let s = c.before.before.before.before.before.before.before in
-    rw (read_back s.ranges.left, read_back s.ranges.right) at (looped 2 _ _ _ _ _ _ (ready s) c.before.before.loop.invariant c.if1.false)
+    rw (read_back s.ranges.left, read_back s.ranges.right) at (looped 2 _ _ _ _ _ _ (ready s) c.loop-at.invariant c.loop-at-test.false)
 
-pub run-stereo-spec : {M : Type 1} → statement M
-run-stereo-spec = tie.close (tie.spec invariant-loop decreases-loop
-    (λ c κs. c.before.before.requires.out_r)
-    (λ c κs. c.before.before.before.requires.out_r)
-    (λ c. let s = c.before.before.before.before in progress_start 2 _ _ _ _ _ _ (ready s) _ c.new2.ensures)
+pub run_stereo_spec : {M : Type 1} → statement M
+run_stereo_spec = tie.close (tie.spec invariant-loop decreases-loop
+    (λ c κs. c.requires.out_r)
+    (λ c κs. c.requires.out_r)
+    (λ c. let s = c.before.before.before.before in progress_start 2 _ _ _ _ _ _ (ready s) _ c.new-at.ensures)
     (λ c. omega arith)
-    (λ c κs. (omega arith, c.before.before.loop.invariant.place.parts.small))
+    (λ c κs. (omega arith, c.loop-at.invariant.place.parts.small))
     (λ c. omega arith)
     (λ c. omega arith)
-    (λ c κs. let b = c.before in (omega (arith, b.if1.true), b.before.before.loop.invariant.place.parts.small))
+    (λ c κs. let b = c.before in (omega (arith, b.loop-at-test.true), b.loop-at.invariant.place.parts.small))
     (λ c. let t = due-turn c.before.before.before in record { fits = omega (arith, t.more, t.fits, t.small) })
     (λ c κs. let t = due-turn c.before.before.before in omega (arith, t.more, t.fits))
     (λ c. let t = due-turn c.before.before.before.before.before.before.before in record { fits = omega (arith, t.more, t.fits, t.small) })
@@ -124,5 +124,5 @@ run-stereo-spec = tie.close (tie.spec invariant-loop decreases-loop
     advance-requires
     (λ c. let t = due-turn c.before.before.before.before.before.before.before.before.before.before.before in omega (arith, t.more))
     loop-again
-    (λ c. c.before.before.loop.invariant.bytes.len)
+    (λ c. c.loop-at.invariant.bytes.len)
     returns)

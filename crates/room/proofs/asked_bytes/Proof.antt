@@ -8,13 +8,13 @@ use Rattle.room.specs.laws.Asked.{asked_most}
 use Rattle.room.proofs.asked_bytes.Statement.{statement}
 use Rattle.room.proofs.asked_bytes.Tie as tie
 
-pub asked-bytes-spec : {M : Type 1} → statement M
-asked-bytes-spec = tie.close (tie.spec
+pub asked_bytes_spec : {M : Type 1} → statement M
+asked_bytes_spec = tie.close (tie.spec
     (λ c κs. search rules) (λ c κs. search rules)
     (λ c.
     let f = c.before in
     let a = f.before in
-    let h : f.asked-frames.result ≤ 8193 = omega (arith, f.asked-frames.ensures, asked_most a.args.frames) in
-    let k : c.frame-bytes.result ≤ 4 = omega (arith, c.frame-bytes.ensures, a.requires) in
+    let h : f.asked_frames.result ≤ 8193 = omega (arith, f.asked_frames.ensures, asked_most a.args.frames) in
+    let k : c.frame_bytes.result ≤ 4 = omega (arith, c.frame_bytes.ensures, a.requires) in
     record { fits = omega (arith, mul-le-mul h k) })
-    (λ c. ap₂ (λ (m n : ℕ). m * n) c.before.asked-frames.ensures c.frame-bytes.ensures))
+    (λ c. ap₂ (λ (m n : ℕ). m * n) c.before.asked_frames.ensures c.frame_bytes.ensures))

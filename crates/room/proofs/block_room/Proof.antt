@@ -15,20 +15,20 @@ use Rattle.room.proofs.Telling.{block_told_lem}
 use Rattle.room.proofs.block_room.Statement.{statement}
 use Rattle.room.proofs.block_room.Tie as tie
 
-module _ (c : tie.Else1) where
+module _ (c : tie.Else-not-head_legal) where
   abbrev s : tie.Start
   s = c.before.before.before
 
   head : head_legal s.args.chain.format s.args.chain.count ≡ true
-  head = sym c.before.head-legal.ensures ∙ not-false _ c.if1.false
+  head = sym c.before.head_legal.ensures ∙ not-false _ c.if-not-head_legal.false
 
   parts : Head s.args.chain.format s.args.chain.count
   parts = head_parts s.args.chain.format s.args.chain.count head
 
-pub block-room-spec : {M : Type 1} → statement M
-block-room-spec = tie.close (tie.spec
+pub block_room_spec : {M : Type 1} → statement M
+block_room_spec = tie.close (tie.spec
     (λ c κs. search rules)
-    (λ c. block_told_lem _ _ _ (block_room_refused _ (head_illegal _ (sym c.before.head-legal.ensures ∙ not-true _ c.if1.true)) _))
+    (λ c. block_told_lem _ _ _ (block_room_refused _ (head_illegal _ (sym c.before.head_legal.ensures ∙ not-true _ c.if-not-head_legal.true)) _))
     (λ c κs. (parts c).channels.1)
     (λ c κs. head c.before)
     (λ c κs. (parts c.before.before).channels.0)
@@ -38,7 +38,7 @@ block-room-spec = tie.close (tie.spec
     let e = b.before in
     let a = (s e).args in
     block_told_lem _ _ _
-    (c.of-block.ensures
-    ∙ ap (λ (x : Walk). room_answer (sized_from a.chain.format b.asked-bytes.result x) x) w.walked.ensures
-    ∙ ap (λ (k : ℕ). room_answer (sized_from a.chain.format k (found Block a.chain k)) (found Block a.chain k)) b.asked-bytes.ensures
+    (c.of_block.ensures
+    ∙ ap (λ (x : Walk). room_answer (sized_from a.chain.format b.asked_bytes-size.result x) x) w.walked.ensures
+    ∙ ap (λ (k : ℕ). room_answer (sized_from a.chain.format k (found Block a.chain k)) (found Block a.chain k)) b.asked_bytes-size.ensures
     ∙ block-room-is a.chain (head e) a.frames (parts e).channels.0)))

@@ -6,12 +6,12 @@ use Rattle.room.specs.Room.{room_answer}
 use Rattle.room.proofs.of_block.Statement.{statement}
 use Rattle.room.proofs.of_block.Tie as tie
 
-pub of-block-spec : {M : Type 1} → statement M
-of-block-spec = tie.close (tie.spec
+pub of_block_spec : {M : Type 1} → statement M
+of_block_spec = tie.close (tie.spec
     (λ c κs. search rules) (λ c. search rules) (λ c. search rules) (λ c κs. search rules)
     (λ c.
     let v = c.before.before.before in
-    ap (λ (x : Verdict). room_answer x v.before.args.walk) (sym c.before.asked.given.1 ∙ v.sized.ensures))
+    ap (λ (x : Verdict). room_answer x v.before.args.walk) (sym c.before.asked-1.given.1 ∙ v.sized-asked.ensures))
     (λ c.
     let v = c.before.before.before in
-    c.known.ensures ∙ ap (λ (x : Verdict). room_answer x v.before.args.walk) (sym c.before.enum_told.given.1 ∙ v.sized.ensures)))
+    c.known.ensures ∙ ap (λ (x : Verdict). room_answer x v.before.args.walk) (sym c.before.enum_told-1.given.1 ∙ v.sized-asked.ensures)))

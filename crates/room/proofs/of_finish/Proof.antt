@@ -14,8 +14,8 @@ use Rattle.room.proofs.of_finish.Tie as tie
 answer : (w : Walk) (t : Bool) → w.legal ≡ t → room_answer (ask w.legal InvalidFormat Accepted) w ≡ room_answer (ask t InvalidFormat Accepted) w
 answer w t e = ap (λ (x : Bool). room_answer (ask x InvalidFormat Accepted) w) e
 
-pub of-finish-spec : {M : Type 1} → statement M
-of-finish-spec = tie.close (tie.spec
-    (λ c. sym (answer c.before.before.args.walk _ (not-true _ c.if1.true)))
+pub of_finish_spec : {M : Type 1} → statement M
+of_finish_spec = tie.close (tie.spec
+    (λ c. sym (answer c.before.before.args.walk _ (not-true _ c.if-not-walk.true)))
     (λ c κs. search rules)
-    (λ c. c.known.ensures ∙ sym (answer c.before.before.before.args.walk _ (not-false _ c.before.if1.false))))
+    (λ c. c.known.ensures ∙ sym (answer c.before.before.before.args.walk _ (not-false _ c.before.if-not-walk.false))))

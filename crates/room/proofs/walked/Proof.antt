@@ -21,8 +21,8 @@ found_is q c size start w e h = h ∙ ap (λ (x : Walk). walked q 0 x (stages_of
 eight : (s : tie.Start) → length s.args.chain.stages ≡ 8
 eight s = search (unmapped, rules)
 
-pub walked-spec : {M : Type 1} → statement M
-walked-spec = tie.close (tie.spec
+pub walked_spec : {M : Type 1} → statement M
+walked_spec = tie.close (tie.spec
     (λ c κs. (head_parts c.args.chain.format c.args.chain.count c.requires).channels)
-    (λ c κs. asks_begin _ _ _ _ _ _ _ _ c.before.requires (eight c.before) c.begun.ensures)
-    (λ c. found_is _ _ _ _ _ c.before.begun.ensures c.walked.ensures.is))
+    (λ c κs. asks_begin _ _ _ _ _ _ _ _ c.before.requires (eight c.before) c.begun-start.ensures)
+    (λ c. found_is _ _ _ _ _ c.before.begun-start.ensures c.walked.ensures.is))

@@ -3,10 +3,10 @@ use Rattle.std.proofs.Common.{◌≡◌, ◌-◌, length, refl, arith, rules}
 use Rattle.speed.proofs.fill.Statement.{statement}
 use Rattle.speed.proofs.fill.Tie as tie
 
-abbrev invariant-loop : tie.invariant-loop
+abbrev invariant-loop : tie.invariant-loop-i
 invariant-loop sound₀ x₀ i₀ sound x i = length sound ≡ length sound₀
 
-abbrev decreases-loop : tie.decreases-loop
+abbrev decreases-loop : tie.decreases-loop-i
 decreases-loop sound₀ x₀ i₀ sound x i = length sound₀ - i
 
 pub fill_spec : {M : Type 1} → statement M

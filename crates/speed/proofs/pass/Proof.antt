@@ -3,10 +3,10 @@ use Rattle.std.proofs.Common.{◌≡◌, ◌-◌, length, refl, rules}
 use Rattle.speed.proofs.pass.Statement.{statement}
 use Rattle.speed.proofs.pass.Tie as tie
 
-abbrev invariant-loop : tie.invariant-loop
+abbrev invariant-loop : tie.invariant-loop-at
 invariant-loop first size sound a₀ b₀ chain₀ tally₀ format at₀ a b chain tally at = (length a ≡ length a₀) × (length b ≡ length b₀)
 
-abbrev decreases-loop : tie.decreases-loop
+abbrev decreases-loop : tie.decreases-loop-at
 decreases-loop first size sound a₀ b₀ chain₀ tally₀ format at₀ a b chain tally at = length sound - at
 
 pub pass_spec : {M : Type 1} → statement M

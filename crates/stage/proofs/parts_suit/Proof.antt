@@ -17,28 +17,28 @@ small part rate t h e k = le_trans (leb-true part rate (both (ltb 0 part) (leb p
 fits : {a b : ℕ} → a ≤ 384000 → b ≤ 384000 → a * b < 2 ^ 64
 fits h k = lt_of_le_of_lt (mul-le-mul h k) (lit< tt)
 
-returns : tie.Need-returns
+returns : tie.Need-returns-then-part_suits-2
 returns c =
     let second = c.before in
     let first = second.before.before in
-    rw (← first.part-suits.ensures, second.before.if1.true, ← second.part-suits2.ensures, c.if2.true)
+    rw (← first.part_suits.ensures, second.before.if-part_suits.true, ← second.part_suits-then-part_suits.ensures, c.if-part_suits-2.true)
 
-returns-2 : tie.Need-returns-2
+returns-2 : tie.Need-returns-then-part_suits
 returns-2 c =
     let second = c.before in
     let first = second.before.before in
-    rw (← first.part-suits.ensures, second.before.if1.true, ← second.part-suits2.ensures, c.if2.false)
+    rw (← first.part_suits.ensures, second.before.if-part_suits.true, ← second.part_suits-then-part_suits.ensures, c.if-part_suits-2.false)
 
-returns-3 : tie.Need-returns-3
-returns-3 c = rw (← c.before.part-suits.ensures, c.if1.false)
+returns-3 : tie.Need-returns
+returns-3 c = rw (← c.before.part_suits.ensures, c.if-part_suits.false)
 
-pub parts-suit-spec : {M : Type 1} → statement M
-parts-suit-spec = tie.close (tie.spec (λ c κs. search rules) (λ c κs. search rules)
+pub parts_suit_spec : {M : Type 1} → statement M
+parts_suit_spec = tie.close (tie.spec (λ c κs. search rules) (λ c κs. search rules)
     (λ c.
     let first = c.before.before.before in
     let s = first.before in
-    record { fits = fits (small s.args.in_r s.args.input _ c.before.before.if1.true first.part-suits.ensures s.requires.0) s.requires.1 })
+    record { fits = fits (small s.args.in_r s.args.input _ c.before.before.if-part_suits.true first.part_suits.ensures s.requires.0) s.requires.1 })
     (λ c.
     let s = c.before.before.before.before in
-    record { fits = fits (small s.args.out_r s.args.output _ c.if2.true c.before.part-suits2.ensures s.requires.1) s.requires.0 })
+    record { fits = fits (small s.args.out_r s.args.output _ c.if-part_suits-2.true c.before.part_suits-then-part_suits.ensures s.requires.1) s.requires.0 })
     returns returns-2 returns-3)

@@ -16,28 +16,28 @@ within : (rate : ℕ) (t : Bool) → t ≡ true → t ≡ rate_allowed rate → 
 unfolding rate_allowed
 within rate t h e = leb-true rate 384000 (both (ltb 0 rate) (leb rate 384000) (sym e ∙ h)).1
 
-returns : tie.Need-returns
+returns : tie.Need-returns-then-rate_allowed-2
 unfolding rates_suit rates_allowed
 returns c =
     let second = c.before.before.before.before in
     let first = second.before.before in
-    rw (← first.rate-allowed.ensures, second.before.if1.true, ← second.rate-allowed2.ensures, c.before.before.before.if2.true) c.parts-suit.ensures
+    rw (← first.rate_allowed.ensures, second.before.if-rate_allowed.true, ← second.rate_allowed-then-rate_allowed.ensures, c.before.before.before.if-rate_allowed-2.true) c.parts_suit.ensures
 
-returns-2 : tie.Need-returns-2
+returns-2 : tie.Need-returns-then-rate_allowed
 unfolding rates_suit rates_allowed
 returns-2 c =
     let second = c.before in
     let first = second.before.before in
-    rw (← first.rate-allowed.ensures, second.before.if1.true, ← second.rate-allowed2.ensures, c.if2.false)
+    rw (← first.rate_allowed.ensures, second.before.if-rate_allowed.true, ← second.rate_allowed-then-rate_allowed.ensures, c.if-rate_allowed-2.false)
 
-returns-3 : tie.Need-returns-3
+returns-3 : tie.Need-returns
 unfolding rates_suit rates_allowed
-returns-3 c = rw (← c.before.rate-allowed.ensures, c.if1.false)
+returns-3 c = rw (← c.before.rate_allowed.ensures, c.if-rate_allowed.false)
 
-pub rates-suit-spec : {M : Type 1} → statement M
-rates-suit-spec = tie.close (tie.spec (λ c κs. search rules) (λ c κs. search rules) (λ c. search rules) (λ c. search rules)
+pub rates_suit_spec : {M : Type 1} → statement M
+rates_suit_spec = tie.close (tie.spec (λ c κs. search rules) (λ c κs. search rules) (λ c. search rules) (λ c. search rules)
     (λ c κs.
     let second = c.before.before.before in
     let first = second.before.before in
-    (within _ _ second.before.if1.true first.rate-allowed.ensures, within _ _ c.before.before.if2.true second.rate-allowed2.ensures))
+    (within _ _ second.before.if-rate_allowed.true first.rate_allowed.ensures, within _ _ c.before.before.if-rate_allowed-2.true second.rate_allowed-then-rate_allowed.ensures))
     returns returns-2 returns-3)

@@ -4,12 +4,12 @@ use borrow.Author.Tests.{eq-eqb, ne_eqb}
 use Rattle.stage.proofs.resampler_suits.Statement.{statement}
 use Rattle.stage.proofs.resampler_suits.Tie as tie
 
-pub resampler-suits-spec : {M : Type 1} → statement M
-resampler-suits-spec = tie.close (tie.spec (λ c κs. search rules)
+pub resampler_suits_spec : {M : Type 1} → statement M
+resampler_suits_spec = tie.close (tie.spec (λ c κs. search rules)
     (λ c.
     let asked = c.before.before.before in
-    rw (← asked.before.rates_suit_lem.ensures, asked.if1.true, eq-eqb _ _ c.before.if2.true))
+    rw (← asked.before.rates_suit_lem.ensures, asked.if-rates_suit.true, eq-eqb _ _ c.before.if-rate-r.true))
     (λ c.
     let asked = c.before.before in
-    rw (← asked.before.rates_suit_lem.ensures, asked.if1.true, ne_eqb _ _ c.if2.false))
-    (λ c. rw (← c.before.rates_suit_lem.ensures, c.if1.false)))
+    rw (← asked.before.rates_suit_lem.ensures, asked.if-rates_suit.true, ne_eqb _ _ c.if-rate-r.false))
+    (λ c. rw (← c.before.rates_suit_lem.ensures, c.if-rates_suit.false)))

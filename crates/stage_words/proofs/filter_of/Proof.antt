@@ -14,10 +14,10 @@ returns c =
     let c3 = c4.before in
     let c2 = c3.before in
     let c1 = c2.before in
-    rw (c1.Float-at.ensures, c2.float-at2.ensures, c3.float-at3.ensures, c4.float-at4.ensures, c5.float-at5.ensures, c6.float-at6.ensures, c7.float-at7.ensures, c.float-at8.ensures)
+    rw (c1.Float-at.ensures, c2.float_at-2.ensures, c3.float_at-3.ensures, c4.float_at-4.ensures, c5.float_at-5.ensures, c6.float_at-6.ensures, c7.float_at-7.ensures, c.float_at-8.ensures)
 
-pub filter-of-spec : {M : Type 1} → statement M
-filter-of-spec = tie.close (tie.spec
+pub filter_of_spec : {M : Type 1} → statement M
+filter_of_spec = tie.close (tie.spec
     (λ c κs. search rules) (λ c κs. search rules) (λ c κs. search rules) (λ c κs. search rules) (λ c κs. search rules) (λ c κs. search rules)
     (λ c κs. search rules) (λ c κs. search rules)
     returns)

@@ -2,5 +2,5 @@
 use Rattle.stage_words.proofs.flag.Statement.{statement}
 use Rattle.stage_words.proofs.flag.Tie as tie
 
-pub flag-spec : {M : Type 1} → statement M
-flag-spec = tie.close (tie.spec (λ c. rw c.if1.true) (λ c. rw c.if1.false))
+pub flag_spec : {M : Type 1} → statement M
+flag_spec = tie.close (tie.spec (λ c. rw c.if-b.true) (λ c. rw c.if-b.false))

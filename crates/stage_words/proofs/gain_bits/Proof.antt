@@ -7,5 +7,5 @@ use Rattle.pcm.specs.laws.Integers.{read_back}
 use Rattle.stage_words.proofs.gain_bits.Statement.{statement}
 use Rattle.stage_words.proofs.gain_bits.Tie as tie
 
-pub gain-bits-spec : {M : Type 1} → statement M
-gain-bits-spec = tie.close (tie.spec (λ c κs. search rules) (λ c. let f = c.before.ranges.q15 in (c.bits.ensures ∙ ap (of_z w32) (read_back f), f)))
+pub gain_bits_spec : {M : Type 1} → statement M
+gain_bits_spec = tie.close (tie.spec (λ c κs. search rules) (λ c. let f = c.before.ranges.q15 in (c.bits.ensures ∙ ap (of_z w32) (read_back f), f)))

@@ -9,35 +9,35 @@ use Rattle.stage_words.proofs.Reading.{other_kind}
 use Rattle.stage_words.proofs.kind_of.Statement.{statement}
 use Rattle.stage_words.proofs.kind_of.Tie as tie
 
-returns : tie.Need-returns
+returns : tie.Need-returns-in-1
 unfolding kind_of
-returns c = rw (c.before.before.match.keys1, answered w32 c.signed.type-inv c.signed.ensures)
+returns c = rw (c.before.before.in-1.keys1, answered w32 c.signed.type_inv c.signed.ensures)
 
-returns-2 : tie.Need-returns-2
+returns-2 : tie.Need-returns-in-3
 unfolding kind_of
-returns-2 c = rw c.match.keys2
+returns-2 c = rw c.in-1.keys2
 
-returns-3 : tie.Need-returns-3
+returns-3 : tie.Need-returns-in-4
 unfolding kind_of
-returns-3 c = rw c.before.before.before.before.match.keys3
+returns-3 c = rw c.before.before.before.before.in-1.keys3
 
-returns-4 : tie.Need-returns-4
+returns-4 : tie.Need-returns-in-5
 unfolding kind_of
-returns-4 c = rw (c.before.before.match.keys4, c.Float-at.ensures)
+returns-4 c = rw (c.before.before.in-1.keys4, c.Float-at.ensures)
 
-returns-5 : tie.Need-returns-5
+returns-5 : tie.Need-returns-in-6
 unfolding kind_of
-returns-5 c = rw (c.before.match.keys5, c.biquad-of.ensures)
+returns-5 c = rw (c.before.in-1.keys5, c.biquad_of.ensures)
 
-returns-6 : tie.Need-returns-6
-returns-6 c = let r = c.match.rest in sym (other_kind _ _ r.0.0.0.0.1 r.0.0.0.1 r.0.0.1 r.0.1 r.1)
+returns-6 : tie.Need-returns-in_default
+returns-6 c = let r = c.in-1.rest in sym (other_kind _ _ r.0.0.0.0.1 r.0.0.0.1 r.0.0.1 r.0.1 r.1)
 
-pub kind-of-spec : {M : Type 1} → statement M
-kind-of-spec = tie.close (tie.spec
+pub kind_of_spec : {M : Type 1} → statement M
+kind_of_spec = tie.close (tie.spec
     (λ c. search rules) (λ c. search rules) (λ c κs. search rules) (λ c. search rules) (λ c. search rules) (λ c. search rules)
-    (λ c. omega (arith, c.shared-slice-known6.given 3))
+    (λ c. omega (arith, c.shared_slice_known-in-4-3-1.given 3))
     (λ c. search rules)
-    (λ c. omega (arith, c.shared-slice-known7.given 4))
+    (λ c. omega (arith, c.shared_slice_known-in-4-4-1.given 4))
     (λ c. search rules) (λ c κs. search rules) (λ c κs. search rules)
     returns
     returns-2

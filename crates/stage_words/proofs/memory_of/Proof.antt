@@ -3,7 +3,7 @@ use borrow.Author.Rules.{rules}
 use Rattle.stage_words.proofs.memory_of.Statement.{statement}
 use Rattle.stage_words.proofs.memory_of.Tie as tie
 
-pub memory-of-spec : {M : Type 1} → statement M
-memory-of-spec = tie.close (tie.spec
+pub memory_of_spec : {M : Type 1} → statement M
+memory_of_spec = tie.close (tie.spec
     (λ c κs. search rules) (λ c κs. search rules)
-    (λ c. rw (c.before.filter-of.ensures, c.state-of.ensures)))
+    (λ c. rw (c.before.filter_of-filter.ensures, c.state_of-resampler.ensures)))

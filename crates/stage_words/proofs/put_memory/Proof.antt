@@ -10,9 +10,9 @@ unfolding memory_words filter_words
 returns c =
     let s = c.before.before in
     let f = s.before.before.before.before in
-    (s.put-state.ensures.0 ∙ rw f.put-filter.ensures.0, f.put-filter.ensures.1, s.put-state.ensures.1)
+    (s.put_state.ensures.0 ∙ rw f.put_filter.ensures.0, f.put_filter.ensures.1, s.put_state.ensures.1)
 
-pub put-memory-spec : {M : Type 1} → statement M
-put-memory-spec = tie.close (tie.spec
+pub put_memory_spec : {M : Type 1} → statement M
+put_memory_spec = tie.close (tie.spec
     (λ c κs. search rules) (λ c κs. search rules) (λ c. search rules)
     returns)

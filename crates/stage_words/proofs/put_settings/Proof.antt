@@ -12,11 +12,11 @@ use Rattle.stage_words.proofs.put_settings.Tie as tie
 returns : tie.Need-returns
 returns c =
     let w = c.before.before.args.w.now in
-    let e = c.setting-words.ensures in
-    (seven c.setting-words.result w (ap length e.0 ∙ length_settings _) ∙ ap (sets w 0) e.0, e.1)
+    let e = c.setting_words-v.ensures in
+    (seven c.setting_words-v.result w (ap length e.0 ∙ length_settings _) ∙ ap (sets w 0) e.0, e.1)
 
-pub put-settings-spec : {M : Type 1} → statement M
-put-settings-spec = tie.close (tie.spec
+pub put_settings_spec : {M : Type 1} → statement M
+put_settings_spec = tie.close (tie.spec
     (λ c κs. search rules) (λ c. search rules) (λ c. search rules) (λ c. search rules)
     (λ c. simp length-set (omega arith))
     (λ c. search rules)

@@ -17,15 +17,15 @@ returns c =
     let s = c.before.before in
     let f = s.before.before.before.before in
     let a = f.before.before.before.before.args in
-    let w = a.w.now in
+    let w = a.w-1.now in
     let k = setting_words a.s.kind in
-    let m = memory_words a.s.memory in
+    let m = memory_words a.s.memory-1 in
     let e : 0 + length k ≡ 7 = omega (arith, length_settings a.s.kind) in (
-      s.put-memory.ensures.0 ∙ rw f.put-settings.ensures.0 (sym (sets_append k m w 0 ∙ ap (λ (n : ℕ). sets (sets w 0 k) n m) e)),
-      record { kind = f.put-settings.ensures.1; filter = s.put-memory.ensures.1; last = s.put-memory.ensures.2 },
+      s.put_memory.ensures.0 ∙ rw f.put_settings.ensures.0 (sym (sets_append k m w 0 ∙ ap (λ (n : ℕ). sets (sets w 0 k) n m) e)),
+      record { kind = f.put_settings.ensures.1; filter = s.put_memory.ensures.1; last = s.put_memory.ensures.2 },
     )
 
-pub put-stage-spec : {M : Type 1} → statement M
-put-stage-spec = tie.close (tie.spec
+pub put_stage_spec : {M : Type 1} → statement M
+put_stage_spec = tie.close (tie.spec
     (λ c κs. search rules) (λ c κs. search rules) (λ c. search rules)
     returns)

@@ -16,8 +16,8 @@ returns c =
     let e : to_z w32 (of_z w32 (to_z w16 (of_z w16 s.args.x))) ≡ s.args.x = settled w32 (read_back s.ranges.x) (sfits_widen tt s.ranges.x) in
     ap (λ (n : ℕ). n % 65536) (c.bits.ensures ∙ ap (of_z w32) e) ∙ low_half s.args.x s.ranges.x
 
-pub sample-bits-spec : {M : Type 1} → statement M
-sample-bits-spec = tie.close (tie.spec
+pub sample_bits_spec : {M : Type 1} → statement M
+sample_bits_spec = tie.close (tie.spec
     (λ c. rw (read_back c.ranges.x) (sfits_widen tt c.ranges.x))
     (λ c κs. search rules)
     returns)

@@ -9,14 +9,14 @@ use Rattle.stage_words.proofs.Parts.{upper_half}
 use Rattle.stage_words.proofs.sample_of.Statement.{statement}
 use Rattle.stage_words.proofs.sample_of.Tie as tie
 
-sub-result-2 : tie.Need-overflow-sub-result-2
-sub-result-2 c = let n = c.before.args.n in subst (SFits w16) (sym (upper_half n c.if1.false c.before.requires)) (sfits_to_z (record { fits = c.before.requires }))
+sub-result-2 : tie.Need-overflow_sub-result-2
+sub-result-2 c = let n = c.before.args.n in subst (SFits w16) (sym (upper_half n c.if-n-lt32768.false c.before.requires)) (sfits_to_z (record { fits = c.before.requires }))
 
-returns-2 : tie.Need-returns-2
-returns-2 c = settled w16 (upper_half c.before.args.n c.if1.false c.before.requires) (sfits_to_z (record { fits = c.before.requires }))
+returns-2 : tie.Need-returns
+returns-2 c = settled w16 (upper_half c.before.args.n c.if-n-lt32768.false c.before.requires) (sfits_to_z (record { fits = c.before.requires }))
 
-pub sample-of-spec : {M : Type 1} → statement M
-sample-of-spec = tie.close (tie.spec
+pub sample_of_spec : {M : Type 1} → statement M
+sample_of_spec = tie.close (tie.spec
     (λ c. search rules) (λ c. search rules) (λ c. search rules) (λ c. search rules)
     sub-result-2
     returns-2)

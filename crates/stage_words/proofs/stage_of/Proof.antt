@@ -3,7 +3,7 @@ use borrow.Author.Rules.{rules}
 use Rattle.stage_words.proofs.stage_of.Statement.{statement}
 use Rattle.stage_words.proofs.stage_of.Tie as tie
 
-pub stage-of-spec : {M : Type 1} → statement M
-stage-of-spec = tie.close (tie.spec
+pub stage_of_spec : {M : Type 1} → statement M
+stage_of_spec = tie.close (tie.spec
     (λ c κs. search rules) (λ c κs. search rules)
-    (λ c. rw (c.before.kind-of.ensures, c.memory-of.ensures)))
+    (λ c. rw (c.before.kind_of-kind.ensures, c.memory_of-memory.ensures)))

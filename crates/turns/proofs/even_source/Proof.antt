@@ -5,8 +5,8 @@ use lib.Seq.{length-take-le}
 use Rattle.turns.proofs.even_source.Statement.{statement}
 use Rattle.turns.proofs.even_source.Tie as tie
 
-pub even-source-spec : {M : Type 1} → statement M
-even-source-spec = tie.close (tie.spec
-    (λ c. sym (length-take-le _ _ (c.before.before.requires c.before.if1.false)))
-    (λ c. rw c.if1.true)
-    (λ c. rw (ne_eqb _ 0 c.before.if1.false)))
+pub even_source_spec : {M : Type 1} → statement M
+even_source_spec = tie.close (tie.spec
+    (λ c. sym (length-take-le _ _ (c.before.before.requires c.before.if-i-eq0.false)))
+    (λ c. rw c.if-i-eq0.true)
+    (λ c. rw (ne_eqb _ 0 c.before.if-i-eq0.false)))

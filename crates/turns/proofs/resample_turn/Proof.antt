@@ -6,14 +6,14 @@ use Rattle.turns.proofs.Turning.{even_reads, even_asks, even_does, odd_reads, od
 use Rattle.turns.proofs.resample_turn.Statement.{statement}
 use Rattle.turns.proofs.resample_turn.Tie as tie
 
-pub resample-turn-spec : {M : Type 1} → statement M
-resample-turn-spec = tie.close (tie.spec
-    (λ c κs. even_reads c.before.before.before.before.before.requires c.before.if1.true)
-    (λ c κs. even_asks c.before.before.before.before.before.before.before.requires c.before.before.before.if1.true _ c.before.even-source.ensures)
+pub resample_turn_spec : {M : Type 1} → statement M
+resample_turn_spec = tie.close (tie.spec
+    (λ c κs. even_reads c.before.before.before.before.before.requires c.before.if-i-eq0.true)
+    (λ c κs. even_asks c.before.before.before.before.before.before.before.requires c.before.before.before.if-i-eq0.true _ c.before.even_source.ensures)
     (λ c. search rules) (λ c. search rules)
-    (λ c. even_does c.before.before.before.before.before.before.if1.true _ c.before.before.before.before.even-source.ensures c.before.before.process.ensures)
-    (λ c. odd_reads c.before.before.before.before.requires c.if1.false)
-    (λ c. sym (length-take-le _ _ (odd_reads c.before.before.before.before.before.requires c.before.if1.false)))
-    (λ c κs. odd_asks c.before.before.before.before.before.before.requires c.before.before.if1.false)
+    (λ c. even_does c.before.before.before.before.before.before.if-i-eq0.true _ c.before.before.before.before.even_source.ensures c.before.before.process.ensures)
+    (λ c. odd_reads c.before.before.before.before.requires c.if-i-eq0.false)
+    (λ c. sym (length-take-le _ _ (odd_reads c.before.before.before.before.before.requires c.before.if-i-eq0.false)))
+    (λ c κs. odd_asks c.before.before.before.before.before.before.requires c.before.before.if-i-eq0.false)
     (λ c. search rules) (λ c. search rules)
-    (λ c. odd_does c.before.before.before.before.before.if1.false c.before.before.process2.ensures))
+    (λ c. odd_does c.before.before.before.before.before.if-i-eq0.false c.before.before.process-2.ensures))

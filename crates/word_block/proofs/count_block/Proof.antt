@@ -16,10 +16,10 @@ returns c =
     let u = d.before.before in
     let f = u.before in
     let a = f.before.before.before.args in
-    p.put-counters.ensures
-    ∙ ap₂ (λ (x y : ℕ). sets a.words.now 3 (counter_words x y)) (u.count-up.ensures ∙ ap counted_up f.counter_at.ensures) (e.count-empty.ensures ∙ ap (counted_if a.len) d.counter-at2.ensures)
+    p.put_counters.ensures
+    ∙ ap₂ (λ (x y : ℕ). sets a.words-1.now 3 (counter_words x y)) (u.count_up-blocks.ensures ∙ ap counted_up f.counter_at.ensures) (e.count_empty-empty_blocks.ensures ∙ ap (counted_if a.len) d.counter_at-2.ensures)
 
-pub count-block-spec : {M : Type 1} → statement M
-count-block-spec = tie.close (tie.spec
+pub count_block_spec : {M : Type 1} → statement M
+count_block_spec = tie.close (tie.spec
     (λ c κs. search rules) (λ c κs. search rules) (λ c κs. search rules) (λ c κs. search rules) (λ c κs. search rules) (λ c. search rules)
     returns)

@@ -22,12 +22,12 @@ module _ (w : List ℕ) where
   unfolding legal_head
   not_stood h = rw h
 
-pub legal-head-spec : {M : Type 1} → statement M
-legal-head-spec = tie.close (tie.spec
+pub legal_head_spec : {M : Type 1} → statement M
+legal_head_spec = tie.close (tie.spec
     (λ c κs. search rules)
-    (λ c κs. stands_long _ (sym c.before.stand.ensures ∙ c.if1.true))
-    (λ c κs. stands_long _ (sym c.before.before.stand.ensures ∙ c.before.if1.true))
+    (λ c κs. stands_long _ (sym c.before.stand.ensures ∙ c.if-stand.true))
+    (λ c κs. stands_long _ (sym c.before.before.stand.ensures ∙ c.before.if-stand.true))
     (λ c κs. search rules)
     (λ c. let n = c.before in let f = n.before in let t = f.before in
-    c.head-legal.ensures ∙ stood _ _ _ (sym t.before.stand.ensures ∙ t.if1.true) f.format-of.ensures n.count_of.ensures)
-    (λ c. not_stood _ (sym c.before.stand.ensures ∙ c.if1.false)))
+    c.head_legal.ensures ∙ stood _ _ _ (sym t.before.stand.ensures ∙ t.if-stand.true) f.format_of-own.ensures n.count_of.ensures)
+    (λ c. not_stood _ (sym c.before.stand.ensures ∙ c.if-stand.false)))

@@ -30,14 +30,14 @@ pub record Playing (words₀ : List ℕ) (count : ℕ) (p : Type 0) (words : Lis
   pub used : count ≡ word words₀ 0
   pub long : 152 ≤ length words
 
-abbrev invariant-loop : tie.invariant-loop
+abbrev invariant-loop : tie.invariant-loop-i
 invariant-loop words₀ timestamp sound a₀ b₀ count reaching₀ len₀ clipped₀ i₀ words a b reaching len clipped i =
     Playing words₀ count (Plays (chain_at words₀) count reaching₀ sound (halves a₀ b₀) (shorter a₀ b₀) (chain_at words) reaching len i (halves a b) clipped) words
 
-abbrev decreases-loop : tie.decreases-loop
+abbrev decreases-loop : tie.decreases-loop-i
 decreases-loop words₀ timestamp sound a₀ b₀ count reaching₀ len₀ clipped₀ i₀ words a b reaching len clipped i = count - i
 
-module _ (c : tie.After-slice-known3 invariant-loop decreases-loop) where
+module _ (c : tie.After-slice_known-3-1 invariant-loop decreases-loop) where
   abbrev s : tie.Start invariant-loop decreases-loop
   s = c.before.before.before.before
 
@@ -45,64 +45,64 @@ module _ (c : tie.After-slice-known3 invariant-loop decreases-loop) where
   takes = subst (λ (d : Pipeline). Accepts d s.args.sound.now s.args.a.now s.args.b.now) (stands_chain s.args.words.now s.pre.0) s.pre.1
 
   bytes : Bytes s.args.sound.now
-  bytes = all_by_index (λ (x : ℕ). x < 256) 0 s.args.sound.now (λ i h. omega (arith, c.before.before.shared-slice-known.given i))
+  bytes = all_by_index (λ (x : ℕ). x < 256) 0 s.args.sound.now (λ i h. omega (arith, c.before.before.shared_slice_known-1.given i))
 
   long : 152 ≤ length s.args.words.now
   long = stands_long s.args.words.now s.pre.0
 
 -- ---- where the loop begins
-module _ (c : tie.After-slice-known4 invariant-loop decreases-loop) where
-  abbrev copied : tie.After-copy-unstaged invariant-loop decreases-loop
+module _ (c : tie.After-slice_known-4-1 invariant-loop decreases-loop) where
+  abbrev copied : tie.After-copy_unstaged invariant-loop decreases-loop
   copied = c.before.before
 
-  abbrev numbered : tie.After-count-of invariant-loop decreases-loop
+  abbrev numbered : tie.After-count_of-count invariant-loop decreases-loop
   numbered = copied.before.before
 
-  abbrev formed : tie.After-format-of invariant-loop decreases-loop
+  abbrev formed : tie.After-format_of-own invariant-loop decreases-loop
   formed = numbered.before.before
 
-  abbrev known : tie.After-slice-known3 invariant-loop decreases-loop
+  abbrev known : tie.After-slice_known-3-1 invariant-loop decreases-loop
   known = formed.before.before
 
-loop-holds : tie.Need-loop-init invariant-loop decreases-loop
+loop-holds : tie.Need-loop-i-init invariant-loop decreases-loop
 loop-holds c =
     let k = known c in
     let a = (s k).args in
     record {
-      plays = plays_begin a.words.now a.sound.now a.a.now a.b.now _ _ _ (takes k) (bytes k) (numbered c).count_of.ensures (formed c).format-of.ensures (copied c).copy-unstaged.ensures _ refl;
-      moved = moved_none a.words.now;
-      used = (numbered c).count_of.ensures;
+      plays = plays_begin a.words-1.now a.sound.now a.a-1.now a.b-1.now _ _ _ (takes k) (bytes k) (numbered c).count_of-count.ensures (formed c).format_of-own.ensures (copied c).copy_unstaged.ensures _ refl;
+      moved = moved_none a.words-1.now;
+      used = (numbered c).count_of-count.ensures;
       long = long k;
     }
 
 -- ---- one stage
-loop-again : tie.Need-loop-preserved invariant-loop decreases-loop
+loop-again : tie.Need-loop-i-preserved invariant-loop decreases-loop
 loop-again c =
     let p = c.before.before.before.before.before in
     let t = p.before.before.before.before.before.before.before in
     let m = t.before.before.before in
     let k = m.before.before in
     let il = k.before.before in
-    let v = il.before.loop.invariant in
-    let q = p.put-held-at.ensures in
-    let w = il.before.loop.words in
-    let i = il.before.loop.i in
-    let kind = k.kind_at.result in
-    let memory = t.turn.result.memory in
+    let v = il.before.loop-i.invariant in
+    let q = p.put_held_at.ensures in
+    let w = il.before.loop-i.words in
+    let i = il.before.loop-i.i in
+    let kind = k.kind_at-kind.result in
+    let memory = t.turn-t.result.memory-1 in
     record {
-      plays = plays-next w i _ _ k.kind_at.ensures.0 m.memory-at.ensures.0 _ _ _ _ _ _ _ _ _ _ v.plays il.loop-test.true k.kind_at.ensures.1 m.memory-at.ensures.1 v.long _ _ _ _ _
-          t.turn.ensures c.before.format-after.ensures q.1 _ q.0 _ c.next-stage.ensures;
-      moved = subst (Moved _) (sym q.0) (moved_put w i (held_at kind) (held_words kind memory) (held_past kind) (held_within kind memory) _ v.moved (omega (arith, v.used, il.loop-test.true)));
+      plays = plays-next w i _ _ k.kind_at-kind.ensures.0 m.memory_at-held.ensures.0 _ _ _ _ _ _ _ _ _ _ v.plays il.loop-i-test.true k.kind_at-kind.ensures.1 m.memory_at-held.ensures.1 v.long _ _ _ _ _
+          t.turn-t.ensures c.before.format_after-reaching.ensures q.1 _ q.0 _ c.next_stage-i.ensures;
+      moved = subst (Moved _) (sym q.0) (moved_put w i (held_at kind) (held_words kind memory) (held_past kind) (held_within kind memory) _ v.moved (omega (arith, v.used, il.loop-i-test.true)));
       used = v.used;
       long = omega (arith, v.long, ap length q.0 ∙ length-sets w _ (held_words kind memory));
     }
 
 -- ---- the end
 module _ (c : tie.After-answered invariant-loop decreases-loop) where
-  abbrev done : tie.After-count-block invariant-loop decreases-loop
+  abbrev done : tie.After-count_block invariant-loop decreases-loop
   done = c.before.before.before
 
-  abbrev l : tie.At-loop invariant-loop decreases-loop
+  abbrev l : tie.At-loop-i invariant-loop decreases-loop
   l = done.before.before.before
 
 returns : tie.Need-returns invariant-loop decreases-loop
@@ -110,39 +110,39 @@ returns c =
     let b = (l c).before in
     let k = known b in
     let a = (s k).args in
-    let v = (l c).loop.invariant in (
-      plays-end a.words.now a.sound.now a.a.now a.b.now _ _ _ (takes k) (bytes k) (numbered b).count_of.ensures (formed b).format-of.ensures (copied b).copy-unstaged.ensures
-          _ _ _ _ _ _ _ _ v.plays (done c).before.before.loop-test.false (s k).pre.0 v.moved (done c).count-block.ensures a.timestamp _ c.answered.ensures,
-      stays a.words.now a.sound.now a.a.now a.b.now _ _ _ (takes k) (bytes k) (numbered b).count_of.ensures (formed b).format-of.ensures (copied b).copy-unstaged.ensures
-          _ _ _ _ _ _ _ _ v.plays (done c).before.before.loop-test.false (s k).pre.0 v.moved (done c).count-block.ensures,
+    let v = (l c).loop-i.invariant in (
+      plays-end a.words-1.now a.sound.now a.a-1.now a.b-1.now _ _ _ (takes k) (bytes k) (numbered b).count_of-count.ensures (formed b).format_of-own.ensures (copied b).copy_unstaged.ensures
+          _ _ _ _ _ _ _ _ v.plays (done c).before.before.loop-i-test.false (s k).pre.0 v.moved (done c).count_block.ensures a.timestamp _ c.answered.ensures,
+      stays a.words-1.now a.sound.now a.a-1.now a.b-1.now _ _ _ (takes k) (bytes k) (numbered b).count_of-count.ensures (formed b).format_of-own.ensures (copied b).copy_unstaged.ensures
+          _ _ _ _ _ _ _ _ v.plays (done c).before.before.loop-i-test.false (s k).pre.0 v.moved (done c).count_block.ensures,
     )
 
-same-length-2 : tie.Need-same-length-2 invariant-loop decreases-loop
+same-length-2 : tie.Need-shape_of-a invariant-loop decreases-loop
 same-length-2 c =
     let b = (l c).before in
     let k = known b in
     let a = (s k).args in
-    (l c).loop.invariant.plays.same_a
-    ∙ same_long a.words.now a.sound.now a.a.now a.b.now _ _ _ (takes k) (bytes k) (numbered b).count_of.ensures (formed b).format-of.ensures (copied b).copy-unstaged.ensures
+    (l c).loop-i.invariant.plays.same_a
+    ∙ same_long a.words-1.now a.sound.now a.a-1.now a.b-1.now _ _ _ (takes k) (bytes k) (numbered b).count_of-count.ensures (formed b).format_of-own.ensures (copied b).copy_unstaged.ensures
 
-pub play-spec : {M : Type 1} → statement M
-play-spec = tie.close (tie.spec
+pub play_spec : {M : Type 1} → statement M
+play_spec = tie.close (tie.spec
     invariant-loop
     decreases-loop
     (λ c κs. long c.before)
     (λ c κs. long c.before.before.before)
-    (λ c κs. let k = c.before.before.before.before.before in let a = (s k).args in copy_fits a.words.now a.sound.now a.a.now a.b.now _ (takes k) c.before.count_of.ensures)
+    (λ c κs. let k = c.before.before.before.before.before in let a = (s k).args in copy_fits a.words-1.now a.sound.now a.a-1.now a.b-1.now _ (takes k) c.before.count_of-count.ensures)
     loop-holds
-    (λ c κs. let l = c.before.before in (omega (arith, l.loop.invariant.plays.few, c.before.loop-test.true), l.loop.invariant.long))
-    (λ c κs. let l = c.before.before.before.before in (omega (arith, l.loop.invariant.plays.few, c.before.before.before.loop-test.true), l.loop.invariant.long))
+    (λ c κs. let l = c.before.before in (omega (arith, l.loop-i.invariant.plays.few, c.before.loop-i-test.true), l.loop-i.invariant.long))
+    (λ c κs. let l = c.before.before.before.before in (omega (arith, l.loop-i.invariant.plays.few, c.before.before.before.loop-i-test.true), l.loop-i.invariant.long))
     (λ c κs.
     let m = c.before.before in
     let k = m.before.before in
     let il = k.before.before in
-    asks_at _ _ _ _ k.kind_at.ensures.0 m.memory-at.ensures.0 _ _ _ _ _ _ _ _ _ _ il.before.loop.invariant.plays il.loop-test.true)
+    asks_at _ _ _ _ k.kind_at-kind.ensures.0 m.memory_at-held.ensures.0 _ _ _ _ _ _ _ _ _ _ il.before.loop-i.invariant.plays il.loop-i-test.true)
     (λ c κs.
     let il = c.before.before.before.before.before.before.before.before.before.before.before.before.before in
-    (omega (arith, il.before.loop.invariant.plays.few, il.loop-test.true), il.before.loop.invariant.long))
+    (omega (arith, il.before.loop-i.invariant.plays.few, il.loop-i-test.true), il.before.loop-i.invariant.long))
     (λ c.
     let t = c.before.before.before.before.before.before.before.before.before.before in
     let m = t.before.before.before in
@@ -151,23 +151,23 @@ play-spec = tie.close (tie.spec
     record {
       fits = omega (
         arith,
-        sum-at _ _ _ _ k.kind_at.ensures.0 m.memory-at.ensures.0 _ _ _ _ _ _ _ _ _ _ il.before.loop.invariant.plays il.loop-test.true t.turn.ensures.does.holds,
+        sum-at _ _ _ _ k.kind_at-kind.ensures.0 m.memory_at-held.ensures.0 _ _ _ _ _ _ _ _ _ _ il.before.loop-i.invariant.plays il.loop-i-test.true t.turn-t.ensures.does.holds,
       );
     })
     (λ c κs. search rules)
     (λ c κs.
     let t = c.before.before.before.before.before.before.before.before.before.before.before in
-    t.before.before.before.before.before.before.before.loop-test.true)
+    t.before.before.before.before.before.before.before.loop-i-test.true)
     (λ c.
     let t = c.before.before.before.before.before.before.before.before.before.before.before.before in
     let il = t.before.before.before.before.before.before.before in
-    next_less il.before.loop.i _ t.turn.result.len _ il.loop-test.true c.next-stage.ensures)
+    next_less il.before.loop-i.i _ t.turn-t.result.len _ il.loop-i-test.true c.next_stage-i.ensures)
     loop-again
-    (λ c κs. c.before.before.loop.invariant.long)
+    (λ c κs. c.before.before.loop-i.invariant.long)
     (λ c κs. search rules)
     (λ c.
-    let v = (l c).loop in
-    ap length (done c).count-block.ensures ∙ length-sets v.words 3 (counter_words (counted_up (counter_at v.words 3)) (counted_if v.len (counter_at v.words 5))) ∙ v.inv.moved.long)
+    let v = (l c).loop-i in
+    ap length (done c).count_block.ensures ∙ length-sets v.words-1 3 (counter_words (counted_up (counter_at v.words-1 3)) (counted_if v.len (counter_at v.words-1 5))) ∙ v.invariant.moved.long)
     same-length-2
-    (λ c. (l c).loop.invariant.plays.same_b)
+    (λ c. (l c).loop-i.invariant.plays.same_b)
     returns)

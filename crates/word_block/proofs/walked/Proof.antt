@@ -10,31 +10,31 @@ use Rattle.word_block.proofs.Placing.{in_chain}
 use Rattle.word_block.proofs.walked.Statement.{statement}
 use Rattle.word_block.proofs.walked.Tie as tie
 
-abbrev invariant-loop : tie.invariant-loop
+abbrev invariant-loop : tie.invariant-loop-i
 invariant-loop words count question shorter walk₀ i₀ walk i = Asks question shorter walk₀.format.rate (chain_at words).stages count walk₀ walk i
 
-abbrev decreases-loop : tie.decreases-loop
+abbrev decreases-loop : tie.decreases-loop-i
 decreases-loop words count question shorter walk₀ i₀ walk i = count - i
 
-loop-again : tie.Need-loop-preserved invariant-loop decreases-loop
+loop-again : tie.Need-loop-i-preserved invariant-loop decreases-loop
 loop-again c =
     let m = c.before in
     let k = m.before in
     let l = k.before.before in
     let a = l.before.before.args in
-    let v = l.loop.invariant in
-    asks_next _ _ _ _ _ _ _ _ v k.before.loop-test.true _
-    (c.asked.ensures
-    ∙ ap (stepped a.question a.shorter l.loop.walk) (sym (in_chain a.words.now l.loop.i k.kind_at.result m.memory-at.result k.kind_at.ensures.0 m.memory-at.ensures.0 (omega (arith, v.few)))))
+    let v = l.loop-i.invariant in
+    asks_next _ _ _ _ _ _ _ _ v k.before.loop-i-test.true _
+    (c.asked-walk.ensures
+    ∙ ap (stepped a.question a.shorter l.loop-i.walk) (sym (in_chain a.words.now l.loop-i.i k.kind_at-kind.result m.memory_at-memory.result k.kind_at-kind.ensures.0 m.memory_at-memory.ensures.0 (omega (arith, v.few)))))
 
-pub walked-spec : {M : Type 1} → statement M
-walked-spec = tie.close (tie.spec
+pub walked_spec : {M : Type 1} → statement M
+walked_spec = tie.close (tie.spec
     invariant-loop
     decreases-loop
     (λ c. c.before.requires.1)
-    (λ c κs. (omega (arith, c.before.loop.invariant.few), c.before.before.before.requires.0))
-    (λ c κs. (omega (arith, c.before.before.loop.invariant.few), c.before.before.before.before.requires.0))
-    (λ c κs. asks_fits _ _ _ _ _ _ _ _ c.before.before.before.loop.invariant c.before.before.loop-test.true)
+    (λ c κs. (omega (arith, c.before.loop-i.invariant.few), c.before.before.before.requires.0))
+    (λ c κs. (omega (arith, c.before.before.loop-i.invariant.few), c.before.before.before.before.requires.0))
+    (λ c κs. asks_fits _ _ _ _ _ _ _ _ c.before.before.before.loop-i.invariant c.before.before.loop-i-test.true)
     (λ c. search rules) (λ c. search rules)
     loop-again
-    (λ c. let v = c.before.loop.invariant in record { is = asks_end _ _ _ _ _ _ _ _ v c.loop-test.false; largest = v.within.largest; short = v.within.short }))
+    (λ c. let v = c.before.loop-i.invariant in record { is = asks_end _ _ _ _ _ _ _ _ v c.loop-i-test.false; largest = v.within.largest; short = v.within.short }))

@@ -20,8 +20,8 @@ use Rattle.word_finish.proofs.Finishing.{finishes_stands, finished_chain}
 use Rattle.word_finish.proofs.play.Statement.{statement}
 use Rattle.word_finish.proofs.play.Tie as tie
 
-module _ (p : tie.After-play) where
-  abbrev o : tie.After-chain-of
+module _ (p : tie.After-play-done) where
+  abbrev o : tie.After-chain_of-own
   o = p.before.before.before
 
   abbrev s : tie.Start
@@ -34,31 +34,31 @@ module _ (p : tie.After-play) where
   stood = finishes_stands w s.args.a.now s.args.b.now s.pre
 
   abbrev played : FinishResult
-  played = record { chain = p.play.result.chain; answer = p.play.result.answer; a = p.play.last.1.0; b = p.play.last.1.1.0 }
+  played = record { chain = p.play-done.result.chain; answer = p.play-done.result.answer; a = p.play-done.last.1.0; b = p.play-done.last.1.1.0 }
 
   played_is : played ≡ finished (chain_of_words w) (halves s.args.a.now s.args.b.now)
-  played_is = p.play.ensures ∙ ap (λ (c : Pipeline). finished c (halves s.args.a.now s.args.b.now)) o.chain-of.ensures.0
+  played_is = p.play-done.ensures ∙ ap (λ (c : Pipeline). finished c (halves s.args.a.now s.args.b.now)) o.chain_of-own.ensures.0
 
-  cleared : p.play.result.chain ≡ reset_call (chain_of_words w)
+  cleared : p.play-done.result.chain ≡ reset_call (chain_of_words w)
   cleared = ap (λ (r : FinishResult). r.chain) played_is ∙ finished_chain (chain_of_words w) (halves s.args.a.now s.args.b.now)
 
   small : All Small (chain_of_words w).stages
-  small = subst (λ (x : Pipeline). All Small x.stages) o.chain-of.ensures.0 o.chain-of.ensures.1
+  small = subst (λ (x : Pipeline). All Small x.stages) o.chain_of-own.ensures.0 o.chain_of-own.ensures.1
 
   -- the words with the chain's sound stand for it
-  stand_for : (w' : List ℕ) → w' ≡ sound_words w p.play.result.chain → All HeldMemory (stages_of p.play.result.chain) → chain_of_words w' ≡ p.play.result.chain
+  stand_for : (w' : List ℕ) → w' ≡ sound_words w p.play-done.result.chain → All HeldMemory (stages_of p.play-done.result.chain) → chain_of_words w' ≡ p.play-done.result.chain
   stand_for w' e h =
       ap chain_of_words (e ∙ ap (sound_words w) cleared) ∙ reset_stands w small stood (subst (λ (x : Pipeline). All HeldMemory (stages_of x)) cleared h) ∙ sym cleared
 
-pub play-spec : {M : Type 1} → statement M
-play-spec = tie.close (tie.spec
+pub play_spec : {M : Type 1} → statement M
+play_spec = tie.close (tie.spec
     (λ c κs. search rules)
     (λ c κs. let o = c.before.before in let s = o.before.before.before.before.before in
-    subst (λ (x : Pipeline). Finishes x s.args.a.now s.args.b.now) (sym o.chain-of.ensures.0) s.requires)
+    subst (λ (x : Pipeline). Finishes x s.args.a.now s.args.b.now) (sym o.chain_of-own.ensures.0) s.requires)
     (λ c κs. let p = c.before.before.before.before.before.before in
     (subst (λ (x : Pipeline). x.count ≤ 8) (sym (cleared p)) (reset_few (w p) (stood p)), stands_long (w p) (stood p)))
     (λ c. search rules) (λ c. search rules) (λ c. search rules)
     (λ c. let q = c.before.before in let p = q.before.before.before.before.before.before.before in (
-      ap (λ (x : Pipeline). let r : FinishResult = record { chain = x; answer = p.play.result.answer; a = p.play.new.1.0; b = p.play.new.1.1.0 } in r) (stand_for p _ q.put-sound.ensures.0 q.put-sound.ensures.1) ∙ played_is p,
-      q.put-sound.ensures.0 ∙ ap (sound_words (w p)) (cleared p),
+      ap (λ (x : Pipeline). let r : FinishResult = record { chain = x; answer = p.play-done.result.answer; a = p.play-done.new.1.0; b = p.play-done.new.1.1.0 } in r) (stand_for p _ q.put_sound.ensures.0 q.put_sound.ensures.1) ∙ played_is p,
+      q.put_sound.ensures.0 ∙ ap (sound_words (w p)) (cleared p),
     )))

@@ -15,38 +15,38 @@ use Rattle.word_finish.proofs.Stands.{no_chain_reset, reset_few, reset_stands}
 use Rattle.word_finish.proofs.reset.Statement.{statement}
 use Rattle.word_finish.proofs.reset.Tie as tie
 
-put-sound-requires : tie.Need-put-sound-requires
+put-sound-requires : tie.Need-put_sound-requires
 put-sound-requires c κs =
     let r = c.before in
     let o = r.before in
     let t = o.before.before in
     let w = t.before.before.before.before.args.words.now in
-    let h : stands w ≡ true = sym t.before.stand.ensures ∙ t.if1.true in
-    let q : r.reset.result ≡ reset_call (chain_of_words w) = r.reset.ensures ∙ ap reset_call o.chain-of.ensures.0 in
+    let h : stands w ≡ true = sym t.before.stand.ensures ∙ t.if-stand.true in
+    let q : r.reset-after.result ≡ reset_call (chain_of_words w) = r.reset-after.ensures ∙ ap reset_call o.chain_of-own.ensures.0 in
     (subst (λ (x : Pipeline). x.count ≤ 8) (sym q) (reset_few w h), stands_long w h)
 
-returns : tie.Need-returns
+returns : tie.Need-returns-then-stand
 returns c =
     let p = c.before.before in
     let r = p.before.before in
     let o = r.before in
     let t = o.before.before in
     let w = t.before.before.before.before.args.words.now in
-    let h : stands w ≡ true = sym t.before.stand.ensures ∙ t.if1.true in
-    let q : r.reset.result ≡ reset_call (chain_of_words w) = r.reset.ensures ∙ ap reset_call o.chain-of.ensures.0 in
-    let small : All Small (chain_of_words w).stages = subst (λ (x : Pipeline). All Small x.stages) o.chain-of.ensures.0 o.chain-of.ensures.1 in (
-      rw (h, p.put-sound.ensures.0, q),
-      ap chain_of_words (p.put-sound.ensures.0 ∙ ap (sound_words w) q) ∙ reset_stands w small h (subst (λ (x : Pipeline). All HeldMemory (stages_of x)) q p.put-sound.ensures.1),
+    let h : stands w ≡ true = sym t.before.stand.ensures ∙ t.if-stand.true in
+    let q : r.reset-after.result ≡ reset_call (chain_of_words w) = r.reset-after.ensures ∙ ap reset_call o.chain_of-own.ensures.0 in
+    let small : All Small (chain_of_words w).stages = subst (λ (x : Pipeline). All Small x.stages) o.chain_of-own.ensures.0 o.chain_of-own.ensures.1 in (
+      rw (h, p.put_sound.ensures.0, q),
+      ap chain_of_words (p.put_sound.ensures.0 ∙ ap (sound_words w) q) ∙ reset_stands w small h (subst (λ (x : Pipeline). All HeldMemory (stages_of x)) q p.put_sound.ensures.1),
     )
 
-returns-2 : tie.Need-returns-2
+returns-2 : tie.Need-returns
 returns-2 c =
     let w = c.before.before.before.before.args.words.now in
-    let h : stands w ≡ false = sym c.before.stand.ensures ∙ c.if1.false in
+    let h : stands w ≡ false = sym c.before.stand.ensures ∙ c.if-stand.false in
     (rw h, rw (no_words w h) (sym no_chain_reset))
 
-pub reset-spec : {M : Type 1} → statement M
-reset-spec = tie.close (tie.spec
+pub reset_spec : {M : Type 1} → statement M
+reset_spec = tie.close (tie.spec
     (λ c κs. search rules) (λ c κs. search rules) (λ c κs. search rules)
     put-sound-requires
     (λ c. search rules)

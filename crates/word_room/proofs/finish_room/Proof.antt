@@ -10,14 +10,14 @@ use Rattle.word_room.proofs.Known.{finish_at}
 use Rattle.word_room.proofs.finish_room.Statement.{statement}
 use Rattle.word_room.proofs.finish_room.Tie as tie
 
-module _ (c : tie.Else1) where
+module _ (c : tie.Else-not-legal_head) where
   headed : legal_head c.before.before.before.args.words.now ≡ true
-  headed = sym c.before.legal-head.ensures ∙ not-false _ c.if1.false
+  headed = sym c.before.legal_head.ensures ∙ not-false _ c.if-not-legal_head.false
 
-pub finish-room-spec : {M : Type 1} → statement M
-finish-room-spec = tie.close (tie.spec
+pub finish_room_spec : {M : Type 1} → statement M
+finish_room_spec = tie.close (tie.spec
     (λ c κs. search rules)
-    (λ c. finish_room_refused _ (head_illegal _ (sym c.before.legal-head.ensures ∙ not-true _ c.if1.true)))
+    (λ c. finish_room_refused _ (head_illegal _ (sym c.before.legal_head.ensures ∙ not-true _ c.if-not-legal_head.true)))
     (λ c κs. headed c)
     (λ c κs. search rules)
-    (λ c. let w = c.before in finish_at _ (headed w.before) _ _ w.walked.ensures c.of-finish.ensures))
+    (λ c. let w = c.before in finish_at _ (headed w.before) _ _ w.walked.ensures c.of_finish.ensures))

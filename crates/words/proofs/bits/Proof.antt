@@ -20,14 +20,14 @@ turned c = ap (λ (y : ℤ). negsuc 0 -ℤ y) (tested c) ∙ complement_is c.arg
 kept : (c : tie.Start) → to_z w32 (of_z w32 (negsuc 0 -ℤ to_z w32 (of_z w32 c.args.z))) ≡ complement c.args.z
 kept c = settled w32 (turned c) (complement_fits c.args.z c.ranges.z)
 
-below : (c : tie.Then1) → lt_z c.before.args.z (pos 0) ≡ true
-below c = rw (tested c.before) at c.if1.true
+below : (c : tie.Then-z-lt0) → lt_z c.before.args.z (pos 0) ≡ true
+below c = rw (tested c.before) at c.if-z-lt0.true
 
-above : (c : tie.Else1) → lt_z c.before.args.z (pos 0) ≡ false
-above c = rw (tested c.before) at c.if1.false
+above : (c : tie.Else-z-lt0) → lt_z c.before.args.z (pos 0) ≡ false
+above c = rw (tested c.before) at c.if-z-lt0.false
 
-pub bits-spec : {M : Type 1} → statement M
-bits-spec = tie.close (tie.spec
+pub bits_spec : {M : Type 1} → statement M
+bits_spec = tie.close (tie.spec
     (λ c. subst (SFits w32) (sym (turned c.before)) (complement_fits c.before.args.z c.before.ranges.z))
     (λ c. rw (kept c.before) (complement_natural c.before.args.z c.before.ranges.z (below c)))
     (λ c. rw (kept c.before) (complement_small c.before.args.z c.before.ranges.z (below c)))

@@ -12,12 +12,12 @@ returns c =
     let a = c.before.before.args in
     sym (word_split 1 1 a.i a.s.now (omega arith) ∙ ap₂ (λ (x y : ℕ). x + 256 * y) (byte_word a.i a.s.now) (byte_word (a.i + 1) a.s.now))
 
-pub get-u16-spec : {M : Type 1} → statement M
-get-u16-spec = tie.close (tie.spec
+pub get_u16_spec : {M : Type 1} → statement M
+get_u16_spec = tie.close (tie.spec
     (λ c. search rules)
-    (λ c. omega (arith, c.shared-slice-known.given c.before.args.i))
+    (λ c. omega (arith, c.shared_slice_known-1.given c.before.args.i))
     (λ c. search rules) (λ c. search rules)
-    (λ c. omega (arith, c.shared-slice-known2.given (c.before.before.args.i + 1)))
-    (λ c. omega (arith, c.shared-slice-known2.given (c.before.before.args.i + 1)))
-    (λ c. omega (arith, c.shared-slice-known2.given c.before.before.args.i, c.shared-slice-known2.given (c.before.before.args.i + 1)))
+    (λ c. omega (arith, c.shared_slice_known-2-1.given (c.before.before.args.i + 1)))
+    (λ c. omega (arith, c.shared_slice_known-2-1.given (c.before.before.args.i + 1)))
+    (λ c. omega (arith, c.shared_slice_known-2-1.given c.before.before.args.i, c.shared_slice_known-2-1.given (c.before.before.args.i + 1)))
     returns)

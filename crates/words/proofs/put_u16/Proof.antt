@@ -10,5 +10,5 @@ use Rattle.words.proofs.put_u16.Tie as tie
 returns : tie.Need-returns
 returns c = let x = c.args.x in let e : x / 256 % 256 ≡ x / 256 = omega arith in rw (e, add-one)
 
-pub put-u16-spec : {M : Type 1} → statement M
-put-u16-spec = tie.close (tie.spec (λ c. search rules) (λ c. search rules) (λ c. search rules) (λ c. search rules) (λ c. search rules) (λ c. search rules) returns)
+pub put_u16_spec : {M : Type 1} → statement M
+put_u16_spec = tie.close (tie.spec (λ c. search rules) (λ c. search rules) (λ c. search rules) (λ c. search rules) (λ c. search rules) (λ c. search rules) returns)

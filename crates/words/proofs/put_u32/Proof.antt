@@ -18,8 +18,8 @@ returns c =
     let e : i + 2 ≡ suc (suc i) = omega arith in
     let f : x % 65536 + 65536 * (x / 65536) ≡ x = omega arith in
     let g : word_bytes 4 x ≡ word_bytes 2 (x % 65536) ++ word_bytes 2 (x / 65536) = sym (ap (word_bytes 4) f) ∙ word_join 2 2 (x % 65536) (x / 65536) (omega arith) in
-    c.before.before.put-u162.ensures
-    ∙ rw (e, c.before.before.before.before.before.before.put-u16.ensures) (ap (sets s.args.s.now i) (sym g))
+    c.before.before.put_u16-2.ensures
+    ∙ rw (e, c.before.before.before.before.before.before.put_u16.ensures) (ap (sets s.args.s.now i) (sym g))
 
-pub put-u32-spec : {M : Type 1} → statement M
-put-u32-spec = tie.close (tie.spec (λ c. search rules) (λ c κs. search rules) (λ c. search rules) (λ c. search rules) (λ c κs. search rules) (λ c. search rules) returns)
+pub put_u32_spec : {M : Type 1} → statement M
+put_u32_spec = tie.close (tie.spec (λ c. search rules) (λ c κs. search rules) (λ c. search rules) (λ c. search rules) (λ c κs. search rules) (λ c. search rules) returns)

@@ -18,8 +18,8 @@ returns c =
     let e : i + 4 ≡ suc (suc (suc (suc i))) = omega arith in
     let f : x % 4294967296 + 4294967296 * (x / 4294967296) ≡ x = omega arith in
     let g : word_bytes 8 x ≡ word_bytes 4 (x % 4294967296) ++ word_bytes 4 (x / 4294967296) = sym (ap (word_bytes 8) f) ∙ word_join 4 4 (x % 4294967296) (x / 4294967296) (omega arith) in
-    c.before.before.put-u322.ensures
-    ∙ rw (e, c.before.before.before.before.before.before.put-u32.ensures) (ap (sets s.args.s.now i) (sym g))
+    c.before.before.put_u32-2.ensures
+    ∙ rw (e, c.before.before.before.before.before.before.put_u32.ensures) (ap (sets s.args.s.now i) (sym g))
 
-pub put-u64-spec : {M : Type 1} → statement M
-put-u64-spec = tie.close (tie.spec (λ c. search rules) (λ c κs. search rules) (λ c. search rules) (λ c. search rules) (λ c κs. search rules) (λ c. search rules) returns)
+pub put_u64_spec : {M : Type 1} → statement M
+put_u64_spec = tie.close (tie.spec (λ c. search rules) (λ c κs. search rules) (λ c. search rules) (λ c. search rules) (λ c κs. search rules) (λ c. search rules) returns)

@@ -9,11 +9,11 @@ use Rattle.words.proofs.Signs.{high_half}
 use Rattle.words.proofs.signed.Statement.{statement}
 use Rattle.words.proofs.signed.Tie as tie
 
-sub-result-2 : tie.Need-overflow-sub-result-2
-sub-result-2 c = let x = c.before.args.x in subst (SFits w32) (sym (high_half x c.if1.false c.before.ranges.x.fits)) (sfits_to_z c.before.ranges.x)
+sub-result-2 : tie.Need-overflow_sub-result-2
+sub-result-2 c = let x = c.before.args.x in subst (SFits w32) (sym (high_half x c.if-x-lt2147483648.false c.before.ranges.x.fits)) (sfits_to_z c.before.ranges.x)
 
-returns-2 : tie.Need-returns-2
-returns-2 c = settled w32 (high_half c.before.args.x c.if1.false c.before.ranges.x.fits) (sfits_to_z c.before.ranges.x)
+returns-2 : tie.Need-returns
+returns-2 c = settled w32 (high_half c.before.args.x c.if-x-lt2147483648.false c.before.ranges.x.fits) (sfits_to_z c.before.ranges.x)
 
-pub signed-spec : {M : Type 1} → statement M
-signed-spec = tie.close (tie.spec (λ c. search rules) (λ c. search rules) (λ c. search rules) (λ c. search rules) sub-result-2 returns-2)
+pub signed_spec : {M : Type 1} → statement M
+signed_spec = tie.close (tie.spec (λ c. search rules) (λ c. search rules) (λ c. search rules) (λ c. search rules) sub-result-2 returns-2)

@@ -17,45 +17,45 @@ use Rattle.pcm.specs.laws.Written.{written_part}
 use Rattle.writing.proofs.write_stages.Statement.{statement}
 use Rattle.writing.proofs.write_stages.Tie as tie
 
-abbrev invariant-loop : tie.invariant-loop
+abbrev invariant-loop : tie.invariant-loop-i
 invariant-loop count out₀ stages at₀ i₀ out at i = (i ≤ count) × (at ≡ length (recipe_of (take i stages))) × (out ≡ written (recipe_of (take i stages)) out₀)
 
-abbrev decreases-loop : tie.decreases-loop
+abbrev decreases-loop : tie.decreases-loop-i
 decreases-loop count out₀ stages at₀ i₀ out at i = count - i
 
-eight : (c : tie.Start invariant-loop decreases-loop) → length c.args.t1 ≡ 8
+eight : (c : tie.Start invariant-loop decreases-loop) → length c.args.stages ≡ 8
 eight c = search (unmapped, rules)
 
 fits : (s : tie.Start invariant-loop decreases-loop) → length s.args.out.now < 2 ^ 64
 fits s = omega arith
 
-loop-holds : tie.Need-loop-init invariant-loop decreases-loop
+loop-holds : tie.Need-loop-i-init invariant-loop decreases-loop
 unfolding recipe_of
 loop-holds c = (omega arith, refl, sym (written-nil _))
 
 -- the records so far, with the next
-next_is : (c : tie.After-record-of invariant-loop decreases-loop)
-    → recipe_of (take (c.before.before.before.loop.i + 1) c.before.before.before.before.before.args.t1) ≡ recipe_of (take c.before.before.before.loop.i c.before.before.before.before.before.args.t1) ++ record_bytes c.record_of.result
+next_is : (c : tie.After-record_of-next invariant-loop decreases-loop)
+    → recipe_of (take (c.before.before.before.loop-i.i + 1) c.before.before.before.before.before.args.stages) ≡ recipe_of (take c.before.before.before.loop-i.i c.before.before.before.before.before.args.stages) ++ record_bytes c.record_of-next.result
 next_is c =
     let l = c.before.before.before in
     let s = l.before.before in
-    recipe_next s.args.t1 l.loop.i no_stage (omega (arith, eight s)) ∙ rw c.record_of.ensures
+    recipe_next s.args.stages l.loop-i.i no_stage (omega (arith, eight s)) ∙ rw c.record_of-next.ensures
 
 -- they have room
-kept : (l : tie.At-loop invariant-loop decreases-loop) → length l.loop.out ≡ length l.before.before.args.out.now
+kept : (l : tie.At-loop-i invariant-loop decreases-loop) → length l.loop-i.out ≡ length l.before.before.args.out.now
 kept l =
     let s = l.before.before in
-    let v = l.loop.invariant in
-    ap length v.2 ∙ length_written (recipe_of (take l.loop.i s.args.t1)) s.args.out.now (omega (arith, recipe_within s.args.t1 l.loop.i s.args.count v.0, s.requires.1))
+    let v = l.loop-i.invariant in
+    ap length v.2 ∙ length_written (recipe_of (take l.loop-i.i s.args.stages)) s.args.out.now (omega (arith, recipe_within s.args.stages l.loop-i.i s.args.count v.0, s.requires.1))
 
-room : (c : tie.After-record-of invariant-loop decreases-loop) → c.before.before.before.loop.at + length (record_bytes c.record_of.result) ≤ length c.before.before.before.loop.out
+room : (c : tie.After-record_of-next invariant-loop decreases-loop) → c.before.before.before.loop-i.at + length (record_bytes c.record_of-next.result) ≤ length c.before.before.before.loop-i.out
 room c =
     let l = c.before.before.before in
     let s = l.before.before in
-    let w = recipe_within s.args.t1 (l.loop.i + 1) s.args.count (omega arith) in
-    let n = ap length (next_is c) ∙ length-append (recipe_of (take l.loop.i s.args.t1)) (record_bytes c.record_of.result) in
+    let w = recipe_within s.args.stages (l.loop-i.i + 1) s.args.count (omega arith) in
+    let n = ap length (next_is c) ∙ length-append (recipe_of (take l.loop-i.i s.args.stages)) (record_bytes c.record_of-next.result) in
     let k = kept l in
-    let a = l.loop.invariant.1 in
+    let a = l.loop-i.invariant.1 in
     let p = s.requires.1 in
     omega arith
 
@@ -63,22 +63,22 @@ write-requires : tie.Need-write-requires invariant-loop decreases-loop
 write-requires c κs =
     let l = c.before.before.before.before in
     let r = room c.before in
-    rw (part_to_end l.loop.out l.loop.at, length-drop l.loop.at l.loop.out) (omega arith)
+    rw (part_to_end l.loop-i.out l.loop-i.at, length-drop l.loop-i.at l.loop-i.out) (omega arith)
 
-loop-again : tie.Need-loop-preserved invariant-loop decreases-loop
+loop-again : tie.Need-loop-i-preserved invariant-loop decreases-loop
 loop-again c =
     let w = c.before.before.before in
     let r = w.before.before in
     let l = r.before.before.before in
     let s = l.before.before in
-    let a = recipe_of (take l.loop.i s.args.t1) in (
+    let a = recipe_of (take l.loop-i.i s.args.stages) in (
       search rules,
-      ap₂ ◌+◌ l.loop.invariant.1 c.size.ensures ∙ sym (ap length (next_is r) ∙ length-append a (record_bytes r.record_of.result)),
-      written_part a (record_bytes r.record_of.result) s.args.out.now l.loop.out w.write.new.1.0 l.loop.at l.loop.invariant.1 l.loop.invariant.2 w.write.ensures ∙ ap (λ (x : List ℕ). written x s.args.out.now) (sym (next_is r)),
+      ap₂ ◌+◌ l.loop-i.invariant.1 c.size-at.ensures ∙ sym (ap length (next_is r) ∙ length-append a (record_bytes r.record_of-next.result)),
+      written_part a (record_bytes r.record_of-next.result) s.args.out.now l.loop-i.out w.write.new.1.0 l.loop-i.at l.loop-i.invariant.1 l.loop-i.invariant.2 w.write.ensures ∙ ap (λ (x : List ℕ). written x s.args.out.now) (sym (next_is r)),
     )
 
-pub write-stages-spec : {M : Type 1} → statement M
-write-stages-spec = tie.close (tie.spec invariant-loop decreases-loop
+pub write_stages_spec : {M : Type 1} → statement M
+write_stages_spec = tie.close (tie.spec invariant-loop decreases-loop
     loop-holds
     (λ c. search rules) (λ c. search rules) (λ c κs. search rules)
     (λ c. let r = room c in omega arith)
@@ -86,8 +86,8 @@ write-stages-spec = tie.close (tie.spec invariant-loop decreases-loop
     (λ c. search rules)
     write-requires
     (λ c κs. search rules)
-    (λ c. let e = c.size.ensures in let r = room c.before.before.before.before.before in let k = kept c.before.before.before.before.before.before.before.before in let b = fits c.before.before.before.before.before.before.before.before.before.before in omega arith)
+    (λ c. let e = c.size-at.ensures in let r = room c.before.before.before.before.before in let k = kept c.before.before.before.before.before.before.before.before in let b = fits c.before.before.before.before.before.before.before.before.before.before in omega arith)
     (λ c. search rules) (λ c. search rules)
     loop-again
     (λ c. kept c.before)
-    (λ c. let e : c.before.loop.i ≡ c.before.before.before.args.count = omega arith in rw e at c.before.loop.invariant.2))
+    (λ c. let e : c.before.loop-i.i ≡ c.before.before.before.args.count = omega arith in rw e at c.before.loop-i.invariant.2))

@@ -3,5 +3,5 @@ use borrow.Author.Rules.{rules}
 use Rattle.biquad.proofs.Biquad.from_bits.Statement.{statement}
 use Rattle.biquad.proofs.Biquad.from_bits.Tie as tie
 
-pub from-bits-spec : {M : Type 1} → statement M
-from-bits-spec = tie.close (tie.spec (λ c κs. search rules) (λ c κs. search rules) (λ c κs. search rules) (λ c κs. search rules) (λ c κs. search rules) (λ c. cc))
+pub from_bits_spec : {M : Type 1} → statement M
+from_bits_spec = tie.close (tie.spec (λ c κs. search rules) (λ c κs. search rules) (λ c κs. search rules) (λ c κs. search rules) (λ c κs. search rules) (λ c. cc))

@@ -4,11 +4,11 @@ use Rattle.filters.specs.laws.Filters.{two_channels}
 use Rattle.biquad.proofs.Biquad.process.Statement.{statement}
 use Rattle.biquad.proofs.Biquad.process.Tie as tie
 
-pub process-spec : {M : Type 1} → statement M
-process-spec = tie.close (tie.spec
-    (λ c κs. rw c.before.if1.true at c.before.before.before.before.requires)
-    (λ c κs. let e = c.before in rw (two_channels e.before.before.before.requires e.if1.false) at e.before.before.before.requires)
+pub process_spec : {M : Type 1} → statement M
+process_spec = tie.close (tie.spec
+    (λ c κs. rw c.if-channels-eq1.true at c.requires)
+    (λ c κs. let e = c.before in rw (two_channels e.requires e.if-channels-eq1.false) at e.requires)
     (λ c. search rules)
-    (λ c. let call = c.before.before in rw call.before.before.if1.true call.mono.ensures)
+    (λ c. let call = c.before.before in rw call.if-channels-eq1.true call.mono.ensures)
     (λ c. search rules)
-    (λ c. let call = c.before.before in let e = call.before.before in rw (two_channels e.before.before.before.requires e.if1.false) call.stereo.ensures))
+    (λ c. let call = c.before.before in let e = call.before.before in rw (two_channels e.requires e.if-channels-eq1.false) call.stereo.ensures))

@@ -3,8 +3,8 @@ use borrow.Author.Rules.{rules}
 use Rattle.channels.proofs.MixAnswer.told.Statement.{statement}
 use Rattle.channels.proofs.MixAnswer.told.Tie as tie
 
-pub told-spec : {M : Type 1} → statement M
-told-spec = tie.close (tie.spec
+pub told_spec : {M : Type 1} → statement M
+told_spec = tie.close (tie.spec
     (λ c. search rules) (λ c. search rules) (λ c κs. search rules) (λ c κs. search rules)
-    (λ c. rw c.before.self.given.1)
-    (λ c. rw (c.before.before.before.self2.given.1, c.before.number.ensures, c.needed.ensures)))
+    (λ c. rw c.in-Mixed.is)
+    (λ c. rw (c.in-Refused.is, c.number.ensures, c.needed.ensures)))

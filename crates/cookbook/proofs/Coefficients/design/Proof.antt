@@ -29,14 +29,14 @@ module _ (kind : BiquadKind) (rate : ℕ) (sine cosine a : Float) where
       let f : d ≡ design_answer kind rate sine cosine a = rw (q, ← e, ← k) h in
       (f, ap design_told f ∙ told_is (design_allowed kind rate sine cosine a) refl)
 
-pub design-spec : {M : Type 1} → statement M
+pub design_spec : {M : Type 1} → statement M
 unfolding cookbook design_allowed of_bits of_int round
-design-spec = tie.close (tie.spec
+design_spec = tie.close (tie.spec
     (λ c. search rules) (λ c κs. search rules) (λ c κs. search rules) (λ c κs. search rules) (λ c κs. search rules)
     (λ c. search rules) (λ c κs. search rules) (λ c κs. search rules) (λ c κs. search rules) (λ c κs. search rules)
     (λ c. search rules) (λ c κs. search rules) (λ c κs. search rules) (λ c κs. search rules) (λ c κs. search rules)
     (λ c. search rules) (λ c κs. search rules) (λ c κs. search rules) (λ c κs. search rules) (λ c κs. search rules)
-    (λ c. let s = c.before.before in let k = s.before in answered _ _ _ _ _ k.before.before.kind.given.1 c.designed.ensures (no_factor c.before.allowed.ensures) (rw k.alpha.ensures at s.with-numerator.ensures))
-    (λ c. let s = c.before.before in let k = s.before in answered _ _ _ _ _ k.before.before.kind2.given.1 c.designed2.ensures (no_factor c.before.allowed2.ensures) (rw k.alpha2.ensures at s.with-numerator2.ensures))
-    (λ c. let s = c.before.before in let k = s.before in answered _ _ _ _ _ k.before.before.kind3.given.1 c.designed3.ensures c.before.peak-allowed.ensures (rw k.alpha3.ensures at s.with-numerator3.ensures))
-    (λ c. let s = c.before.before in let k = s.before in answered _ _ _ _ _ k.before.before.kind4.given.1 c.designed4.ensures (no_factor c.before.allowed3.ensures) (rw k.alpha4.ensures at s.with-numerator4.ensures)))
+    (λ c. let s = c.before.before in let k = s.before in answered _ _ _ _ _ k.in-LowPass.is c.designed.ensures (no_factor c.allowed.ensures) (rw k.alpha-alpha.ensures at s.with_numerator-section.ensures))
+    (λ c. let s = c.before.before in let k = s.before in answered _ _ _ _ _ k.in-HighPass.is c.designed-in-HighPass.ensures (no_factor c.allowed-in-HighPass.ensures) (rw k.alpha-alpha-in-HighPass.ensures at s.with_numerator-section-in-HighPass.ensures))
+    (λ c. let s = c.before.before in let k = s.before in answered _ _ _ _ _ k.in-Peak.is c.designed-in-Peak.ensures c.peak_allowed.ensures (rw k.alpha-alpha-in-Peak.ensures at s.with_numerator-section-in-Peak.ensures))
+    (λ c. let s = c.before.before in let k = s.before in answered _ _ _ _ _ k.in-Notch.is c.designed-in-Notch.ensures (no_factor c.allowed-in-Notch.ensures) (rw k.alpha-alpha-in-Notch.ensures at s.with_numerator-section-in-Notch.ensures)))

@@ -8,5 +8,5 @@ returns : tie.Need-returns
 unfolding of_bits of_int round
 returns c = refl
 
-pub flat-spec : {M : Type 1} → statement M
-flat-spec = tie.close (tie.spec returns)
+pub flat_spec : {M : Type 1} → statement M
+flat_spec = tie.close (tie.spec returns)

@@ -3,5 +3,5 @@ use Rattle.std.proofs.Common.{rules}
 use Rattle.cookbook.proofs.Section.normalise.Statement.{statement}
 use Rattle.cookbook.proofs.Section.normalise.Tie as tie
 
-pub normalise-spec : {M : Type 1} → statement M
-normalise-spec = tie.close (tie.spec (λ c κs. search rules) (λ c κs. search rules) (λ c κs. search rules) (λ c κs. search rules) (λ c κs. search rules) (λ c. cc))
+pub normalise_spec : {M : Type 1} → statement M
+normalise_spec = tie.close (tie.spec (λ c κs. search rules) (λ c κs. search rules) (λ c κs. search rules) (λ c κs. search rules) (λ c κs. search rules) (λ c. cc))

@@ -8,5 +8,5 @@ returns : tie.Need-returns
 unfolding of_bits of_int round
 returns c = refl
 
-pub with-numerator-spec : {M : Type 1} → statement M
-with-numerator-spec = tie.close (tie.spec returns)
+pub with_numerator_spec : {M : Type 1} → statement M
+with_numerator_spec = tie.close (tie.spec returns)

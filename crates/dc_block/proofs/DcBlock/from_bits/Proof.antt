@@ -8,5 +8,5 @@ returns : tie.Need-returns
 unfolding of_bits
 returns c = refl
 
-pub from-bits-spec : {M : Type 1} → statement M
-from-bits-spec = tie.close (tie.spec returns)
+pub from_bits_spec : {M : Type 1} → statement M
+from_bits_spec = tie.close (tie.spec returns)

@@ -20,15 +20,15 @@ both : (corner : Float) (rate : ℕ) {a : PoleAnswer} → a ≡ pole_answer corn
 both corner rate e = (e, ap pole_told e ∙ told_is corner rate (rate_allowed rate) refl)
 
 radius-requires : tie.Need-radius-requires
-radius-requires c κs = sym c.before.rate-allowed.ensures ∙ c.if1.true
+radius-requires c κs = sym c.rate_allowed.ensures ∙ c.if-rate_allowed.true
 
-returns : tie.Need-returns
+returns : tie.Need-returns-then-rate_allowed
 unfolding pole_answer
-returns c = both _ _ (rw (sym c.before.before.rate-allowed.ensures ∙ c.before.if1.true) (ap Pole c.radius.ensures))
+returns c = both _ _ (rw (sym c.rate_allowed.ensures ∙ c.if-rate_allowed.true) (ap Pole c.radius.ensures))
 
-returns-2 : tie.Need-returns-2
+returns-2 : tie.Need-returns
 unfolding pole_answer
-returns-2 c = both _ _ (rw (sym c.before.rate-allowed.ensures ∙ c.if1.false))
+returns-2 c = both _ _ (rw (sym c.rate_allowed.ensures ∙ c.if-rate_allowed.false))
 
-pub pole-spec : {M : Type 1} → statement M
-pole-spec = tie.close (tie.spec (λ c κs. search rules) radius-requires returns returns-2)
+pub pole_spec : {M : Type 1} → statement M
+pole_spec = tie.close (tie.spec (λ c κs. search rules) radius-requires returns returns-2)

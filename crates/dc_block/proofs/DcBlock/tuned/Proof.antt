@@ -4,7 +4,7 @@ use Rattle.dc_block.proofs.DcBlock.tuned.Statement.{statement}
 use Rattle.dc_block.proofs.DcBlock.tuned.Tie as tie
 
 returns : tie.Need-returns
-returns c = rw (← c.before.float-of-bits.ensures, ← c.radius.ensures)
+returns c = rw (← c.float_of_bits.ensures, ← c.radius.ensures)
 
-pub tuned-spec : {M : Type 1} → statement M
-tuned-spec = tie.close (tie.spec (λ c κs. search rules) (λ c κs. search rules) returns)
+pub tuned_spec : {M : Type 1} → statement M
+tuned_spec = tie.close (tie.spec (λ c κs. search rules) (λ c κs. search rules) returns)

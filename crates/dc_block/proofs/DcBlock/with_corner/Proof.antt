@@ -6,7 +6,7 @@ use Rattle.dc_block.proofs.DcBlock.with_corner.Statement.{statement}
 use Rattle.dc_block.proofs.DcBlock.with_corner.Tie as tie
 
 returns : tie.Need-returns
-returns c = c.from-bits.ensures ∙ ap untuned c.before.bits-of-float.ensures
+returns c = c.from_bits.ensures ∙ ap untuned c.bits_of_float.ensures
 
-pub with-corner-spec : {M : Type 1} → statement M
-with-corner-spec = tie.close (tie.spec (λ c κs. search rules) (λ c κs. search rules) returns)
+pub with_corner_spec : {M : Type 1} → statement M
+with_corner_spec = tie.close (tie.spec (λ c κs. search rules) (λ c κs. search rules) returns)

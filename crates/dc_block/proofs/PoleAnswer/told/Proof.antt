@@ -4,7 +4,7 @@ use lib.Ieee.{of_bits}
 use Rattle.dc_block.proofs.PoleAnswer.told.Statement.{statement}
 use Rattle.dc_block.proofs.PoleAnswer.told.Tie as tie
 
-pub told-spec : {M : Type 1} → statement M
+pub told_spec : {M : Type 1} → statement M
 unfolding of_bits
-told-spec = tie.close (tie.spec (λ c. search rules) (λ c. search rules) (λ c κs. search rules)
-    (λ c. rw c.before.self.given.1) (λ c. rw (c.number.ensures, c.before.before.self2.given.1)))
+told_spec = tie.close (tie.spec (λ c. search rules) (λ c. search rules) (λ c κs. search rules)
+    (λ c. rw c.in-Pole.is) (λ c. rw (c.number.ensures, c.in-Refused.is)))

@@ -22,13 +22,13 @@ not_low : (z : ℤ) → lt_z z (negsuc 33554431) ≡ false → le_z z (pos 33554
 not_low (pos n) e = refl
 not_low (negsuc n) e = sym (le-leb (suc n) 33554432 (omega (arith, ltb-false 33554431 n e)))
 
-pub allowed-spec : {M : Type 1} → statement M
-allowed-spec = tie.close (tie.spec
+pub allowed_spec : {M : Type 1} → statement M
+allowed_spec = tie.close (tie.spec
     (λ c.
     let s = c.before.before in
     let q : to_z w32 (of_z w32 s.args.self.q15) ≡ s.args.self.q15 = search rules in
-    too_low s.args.self.q15 (rw q at c.if1.true))
+    too_low s.args.self.q15 (rw q at c.if-q-ltminus33554432.true))
     (λ c.
     let s = c.before.before in
     let q : to_z w32 (of_z w32 s.args.self.q15) ≡ s.args.self.q15 = search rules in
-    rw q (not_low s.args.self.q15 (rw q at c.if1.false))))
+    rw q (not_low s.args.self.q15 (rw q at c.if-q-ltminus33554432.false))))

@@ -13,7 +13,7 @@ returns : tie.Need-returns
 returns c =
     let s = c.before.before in
     let q : to_z w32 (of_z w32 s.args.self.q15) ≡ s.args.self.q15 = search rules in
-    answered w16 c.scale-full.type-inv (c.scale-full.ensures ∙ rw (q, read_back s.ranges.x))
+    answered w16 c.scale_full.type_inv (c.scale_full.ensures ∙ rw (q, read_back s.ranges.x))
 
-pub apply-spec : {M : Type 1} → statement M
-apply-spec = tie.close (tie.spec (λ c κs. search rules) returns)
+pub apply_spec : {M : Type 1} → statement M
+apply_spec = tie.close (tie.spec (λ c κs. search rules) returns)

@@ -9,7 +9,7 @@ use Rattle.gain.proofs.Gain.linear.Tie as tie
 
 returns : tie.Need-returns
 unfolding linear_factor of_bits
-returns c = answered w32 c.round-held.type-inv c.round-held.ensures
+returns c = answered w32 c.round_held.type_inv c.round_held.ensures
 
-pub linear-spec : {M : Type 1} → statement M
-linear-spec = tie.close (tie.spec (λ c κs. search rules) returns)
+pub linear_spec : {M : Type 1} → statement M
+linear_spec = tie.close (tie.spec (λ c κs. search rules) returns)

@@ -11,59 +11,59 @@ use Rattle.note_lines.specs.laws.Arguments.{field_end, field-low, field-high, fi
 use Rattle.note_lines.proofs.arguments.field.Statement.{statement}
 use Rattle.note_lines.proofs.arguments.field.Tie as tie
 
-abbrev invariant-loop : tie.invariant-loop
+abbrev invariant-loop : tie.invariant-loop-i
 invariant-loop text most value₀ i₀ value i = (i ≤ length text) × (value ≤ most) × (field_of most text ≡ field_after most value (drop i text))
 
-abbrev decreases-loop : tie.decreases-loop
+abbrev decreases-loop : tie.decreases-loop-i
 decreases-loop text most value₀ i₀ value i = length text - i
 
 -- the next byte, and what follows it
-left_is : (i : tie.In-loop invariant-loop decreases-loop)
-    → field_of i.before.before.args.most i.before.before.args.text.now ≡ field_after i.before.before.args.most i.before.loop.value
-    (get_or i.before.before.args.text.now i.before.loop.i 0 ∷ drop (i.before.loop.i + 1) i.before.before.args.text.now)
+left_is : (i : tie.In-loop-i invariant-loop decreases-loop)
+    → field_of i.before.before.args.most i.before.before.args.text.now ≡ field_after i.before.before.args.most i.before.loop-i.value
+    (get_or i.before.before.args.text.now i.before.loop-i.i 0 ∷ drop (i.before.loop-i.i + 1) i.before.before.args.text.now)
 left_is i =
     let l = i.before in
     let a = l.before.args in
-    l.loop.invariant.2 ∙ ap (field_after a.most l.loop.value) (next_byte a.text.now l.loop.i i.loop-test.true)
+    l.loop-i.invariant.2 ∙ ap (field_after a.most l.loop-i.value) (next_byte a.text.now l.loop-i.i i.loop-i-test.true)
 
-returns : tie.Need-returns invariant-loop decreases-loop
+returns : tie.Need-returns-then-b-lt48 invariant-loop decreases-loop
 returns c =
     let i = c.before.before in
     let l = i.before in
     let a = l.before.args in
-    field-low a.most l.loop.value _ (drop (l.loop.i + 1) a.text.now) c.if1.true ∙ sym (left_is i)
+    field-low a.most l.loop-i.value _ (drop (l.loop-i.i + 1) a.text.now) c.if-b-lt48.true ∙ sym (left_is i)
 
-returns-2 : tie.Need-returns-2 invariant-loop decreases-loop
+returns-2 : tie.Need-returns-then-b-gt57 invariant-loop decreases-loop
 returns-2 c =
     let i = c.before.before.before in
     let l = i.before in
     let a = l.before.args in
-    field-high a.most l.loop.value _ (drop (l.loop.i + 1) a.text.now) c.before.if1.false c.if2.true ∙ sym (left_is i)
+    field-high a.most l.loop-i.value _ (drop (l.loop-i.i + 1) a.text.now) c.before.if-b-lt48.false c.if-b-gt57.true ∙ sym (left_is i)
 
-returns-3 : tie.Need-returns-3 invariant-loop decreases-loop
+returns-3 : tie.Need-returns-then-next-most invariant-loop decreases-loop
 returns-3 c =
     let e = c.before in
     let i = e.before.before.before in
     let l = i.before in
     let a = l.before.args in
-    field-over a.most l.loop.value _ (drop (l.loop.i + 1) a.text.now) e.before.if1.false e.if2.false c.if3.true ∙ sym (left_is i)
+    field-over a.most l.loop-i.value _ (drop (l.loop-i.i + 1) a.text.now) e.before.if-b-lt48.false e.if-b-gt57.false c.if-next-most.true ∙ sym (left_is i)
 
-loop-again : tie.Need-loop-preserved invariant-loop decreases-loop
+loop-again : tie.Need-loop-i-preserved invariant-loop decreases-loop
 loop-again c =
     let e = c.before in
     let i = e.before.before.before in
     let l = i.before in
     let a = l.before.args in
-    (search rules, c.if3.false, left_is i ∙ field_next a.most l.loop.value _ (drop (l.loop.i + 1) a.text.now) e.before.if1.false e.if2.false)
+    (search rules, c.if-next-most.false, left_is i ∙ field_next a.most l.loop-i.value _ (drop (l.loop-i.i + 1) a.text.now) e.before.if-b-lt48.false e.if-b-gt57.false)
 
-returns-4 : tie.Need-returns-4 invariant-loop decreases-loop
+returns-4 : tie.Need-returns invariant-loop decreases-loop
 returns-4 c =
     let l = c.before in
     let a = l.before.args in
-    field_end a.most l.loop.value l.loop.invariant.1 ∙ sym (l.loop.invariant.2 ∙ ap (field_after a.most l.loop.value) (drop_of_length-le a.text.now c.loop-test.false))
+    field_end a.most l.loop-i.value l.loop-i.invariant.1 ∙ sym (l.loop-i.invariant.2 ∙ ap (field_after a.most l.loop-i.value) (drop_of_length-le a.text.now c.loop-i-test.false))
 
-pub field-spec : {M : Type 1} → statement M
-field-spec = tie.close (tie.spec invariant-loop decreases-loop
+pub field_spec : {M : Type 1} → statement M
+field_spec = tie.close (tie.spec invariant-loop decreases-loop
     (λ c. (omega arith, omega arith, refl))
     (λ c. search rules)
     returns

@@ -5,9 +5,9 @@ use Rattle.note_lines.specs.laws.Arguments.{field_within}
 use Rattle.note_lines.proofs.arguments.format.Statement.{statement}
 use Rattle.note_lines.proofs.arguments.format.Tie as tie
 
-pub format-spec : {M : Type 1} → statement M
-format-spec = tie.close (tie.spec
+pub format_spec : {M : Type 1} → statement M
+format_spec = tie.close (tie.spec
     (λ c κs. search rules)
     (λ c κs. search rules)
-    (λ c. omega (arith, c.field2.ensures, field_within 0xffff c.before.before.before.before.args.channels.now))
-    (λ c. rw (c.before.field.ensures, c.field2.ensures)))
+    (λ c. omega (arith, c.field-2.ensures, field_within 0xffff c.before.before.before.before.args.channels.now))
+    (λ c. rw (c.before.field.ensures, c.field-2.ensures)))

@@ -13,17 +13,17 @@ few : (n : ℕ) → (n ≡ 0 → ⊥) → n ≤ 2 → channels_allowed n ≡ tru
 unfolding channels_allowed
 few n h k = let g : 0 < n = omega arith in rw (lt-ltb _ _ g, le-leb _ _ k)
 
-returns : tie.Need-returns
+returns : tie.Need-returns-then-self-eq0
 unfolding format_allowed channels_allowed
-returns c = rw c.if1.true
+returns c = rw c.if-self-eq0.true
 
-returns-2 : tie.Need-returns-2
+returns-2 : tie.Need-returns-then-self-gt-MAX_CHANNELS
 unfolding format_allowed channels_allowed
-returns-2 c = let h : 0 < c.before.before.before.before.args.self.channels = omega arith in rw (lt-ltb _ _ h, lt-leb _ _ c.if2.true)
+returns-2 c = let h : 0 < c.before.before.before.before.args.self.channels = omega arith in rw (lt-ltb _ _ h, lt-leb _ _ c.if-self-gt-MAX_CHANNELS.true)
 
-returns-3 : tie.Need-returns-3
+returns-3 : tie.Need-returns
 unfolding format_allowed
-returns-3 c = rw (few c.before.before.before.before.before.args.self.channels c.before.before.before.if1.false c.before.if2.false) c.rate-allowed.ensures
+returns-3 c = rw (few c.before.before.before.before.before.args.self.channels c.before.before.before.if-self-eq0.false c.before.if-self-gt-MAX_CHANNELS.false) c.rate_allowed.ensures
 
-pub allowed-spec : {M : Type 1} → statement M
-allowed-spec = tie.close (tie.spec returns returns-2 (λ c κs. search rules) returns-3)
+pub allowed_spec : {M : Type 1} → statement M
+allowed_spec = tie.close (tie.spec returns returns-2 (λ c κs. search rules) returns-3)

@@ -19,146 +19,146 @@ use Rattle.pipeline.proofs.Opens.{Opens, opens_start, opens_end, opens-short, no
 use Rattle.pipeline.proofs.Pipeline.open.Statement.{statement}
 use Rattle.pipeline.proofs.Pipeline.open.Tie as tie
 
-abbrev invariant-loop : tie.invariant-loop
+abbrev invariant-loop : tie.invariant-loop-at
 invariant-loop format recipe stages₀ reaching₀ count₀ at₀ stages reaching count at = Opens format recipe stages reaching count at
 
-abbrev decreases-loop : tie.decreases-loop
+abbrev decreases-loop : tie.decreases-loop-at
 decreases-loop format recipe stages₀ reaching₀ count₀ at₀ stages reaching count at = length recipe - at
 
-format-allowed : (c : tie.Else1 invariant-loop decreases-loop) → format_allowed c.before.before.before.args.format ≡ true
-format-allowed c = sym c.before.allowed.ensures ∙ not-false _ c.if1.false
+format-allowed : (c : tie.Else-not-allowed invariant-loop decreases-loop) → format_allowed c.before.before.before.args.format ≡ true
+format-allowed c = sym c.before.allowed.ensures ∙ not-false _ c.if-not-allowed.false
 
 -- the answer to the bytes that are left
-read_is : (c : tie.After-read invariant-loop decreases-loop) → c.read.result ≡ read_record (drop c.before.before.before.loop.at c.before.before.before.before.before.before.before.before.args.recipe.now)
+read_is : (c : tie.After-read-answer invariant-loop decreases-loop) → c.read-answer.result ≡ read_record (drop c.before.before.before.loop-at.at c.before.before.before.before.before.before.before.before.args.recipe.now)
 read_is c =
     let l = c.before.before.before in
     let bytes = l.before.before.before.before.before.args.recipe.now in
-    c.read.ensures ∙ ap read_record (take_all (length bytes - l.loop.at) (drop l.loop.at bytes) (rw length-drop (omega arith)))
+    c.read-answer.ensures ∙ ap read_record (take_all (length bytes - l.loop-at.at) (drop l.loop-at.at bytes) (rw length-drop (omega arith)))
 
 -- the loop, and the entry
-abbrev loop_of : tie.After-known-told invariant-loop decreases-loop → tie.At-loop invariant-loop decreases-loop
+abbrev loop_of : tie.In-Entry invariant-loop decreases-loop → tie.At-loop-at invariant-loop decreases-loop
 loop_of c = c.before.before.before.before.before.before
 
-abbrev entry : tie.At-loop invariant-loop decreases-loop → tie.Start invariant-loop decreases-loop
+abbrev entry : tie.At-loop-at invariant-loop decreases-loop → tie.Start invariant-loop decreases-loop
 entry l = l.before.before.before.before.before
 
-abbrev left_of : tie.At-loop invariant-loop decreases-loop → List ℕ
-left_of l = drop l.loop.at (entry l).args.recipe.now
+abbrev left_of : tie.At-loop-at invariant-loop decreases-loop → List ℕ
+left_of l = drop l.loop-at.at (entry l).args.recipe.now
 
 -- bytes are left
-left-some : (c : tie.After-known-told invariant-loop decreases-loop) → (loop_of c).loop.at < length (entry (loop_of c)).args.recipe.now
-left-some c = c.before.before.before.before.before.loop-test.true
+left-some : (c : tie.In-Entry invariant-loop decreases-loop) → (loop_of c).loop-at.at < length (entry (loop_of c)).args.recipe.now
+left-some c = c.before.before.before.before.before.loop-at-test.true
 
-found : (c : tie.After-known-told invariant-loop decreases-loop) → read_record (left_of (loop_of c)) ≡ read.Entry c.before.answer.given.0.0
-found c = sym (read_is c.before.before.before) ∙ c.before.answer.given.1
+found : (c : tie.In-Entry invariant-loop decreases-loop) → read_record (left_of (loop_of c)) ≡ read.Entry c.before.answer-1.given.0.0
+found c = sym (read_is c.before.before.before) ∙ c.before.answer-1.given.1
 
 -- a note, and a stage's record
-noted : (c : tie.After-known-told2 invariant-loop decreases-loop) → read_record (left_of (loop_of c.before.before.before)) ≡ read.Entry (entered.Note c.before.entry.given.0.0)
-noted c = found c.before.before.before ∙ ap read.Entry c.before.entry.given.1
+noted : (c : tie.In-Note invariant-loop decreases-loop) → read_record (left_of (loop_of c.before.before.before)) ≡ read.Entry (entered.Note c.before.entry-1.given.0.0)
+noted c = found c.before.before.before ∙ ap read.Entry c.before.entry-1.given.1
 
-recorded : (c : tie.After-known-told3 invariant-loop decreases-loop) → read_record (left_of (loop_of c.before.before.before)) ≡ read.Entry (entered.Stage c.before.entry2.given.0.0)
-recorded c = found c.before.before.before ∙ ap read.Entry c.before.entry2.given.1
+recorded : (c : tie.In-Stage invariant-loop decreases-loop) → read_record (left_of (loop_of c.before.before.before)) ≡ read.Entry (entered.Stage c.before.entry-in-Stage-1.given.0.0)
+recorded c = found c.before.before.before ∙ ap read.Entry c.before.entry-in-Stage-1.given.1
 
-taken : (c : tie.After-known-told4 invariant-loop decreases-loop)
-    → stage_answer (8 - (loop_of c.before.before.before.before.before.before.before).loop.count) (loop_of c.before.before.before.before.before.before.before).loop.reaching
-    c.before.before.before.before.before.entry2.given.0.0 ≡ answer.Stage c.before.made.given.0.0
-taken c = sym c.before.before.before.stage-of.ensures ∙ c.before.made.given.1
+taken : (c : tie.In-Stage-made invariant-loop decreases-loop)
+    → stage_answer (8 - (loop_of c.before.before.before.before.before.before.before).loop-at.count) (loop_of c.before.before.before.before.before.before.before).loop-at.reaching
+    c.before.before.before.before.before.entry-in-Stage-1.given.0.0 ≡ answer.Stage c.before.made-1.given.0.0
+taken c = sym c.before.before.before.stage_of-made.ensures ∙ c.before.made-1.given.1
 
-returns : tie.Need-returns invariant-loop decreases-loop
+returns : tie.Need-returns-then-not-allowed invariant-loop decreases-loop
 returns c =
     let s = c.before.before.before.before in
-    c.unopened.ensures ∙ sym (call_format s.args.format s.args.recipe.now (sym c.before.before.allowed.ensures ∙ not-true _ c.before.if1.true))
+    c.unopened.ensures ∙ sym (call_format s.args.format s.args.recipe.now (sym c.before.before.allowed.ensures ∙ not-true _ c.before.if-not-allowed.true))
 
-loop-holds : tie.Need-loop-init invariant-loop decreases-loop
-loop-holds c = let s = c.before.before.before.before in rw c.no_stages.ensures (opens_start s.args.format s.args.recipe.now (format-allowed c.before))
+loop-holds : tie.Need-loop-at-init invariant-loop decreases-loop
+loop-holds c = let s = c.before.before.before.before in rw c.no_stages-stages.ensures (opens_start s.args.format s.args.recipe.now (format-allowed c.before))
 
-returns-2 : tie.Need-returns-2 invariant-loop decreases-loop
+returns-2 : tie.Need-returns-in_default invariant-loop decreases-loop
 returns-2 c =
     let t = c.before.before in
     let l = t.before.before.before.before.before in
     let s = entry l in
-    let e = opens-short l.loop.invariant t.before.before.before.before.loop-test.true (sym (read_is t.before.before) ∙ t.enum_told.given.1) in
-    c.unopened2.ensures ∙ rw (c.before.verdict.ensures, t.enum_told.given.1) (sym (call-refused s.args.format s.args.recipe.now (format-allowed l.before.before) e))
+    let e = opens-short l.loop-at.invariant t.before.before.before.before.loop-at-test.true (sym (read_is t.before.before) ∙ t.enum_told-1.given.1) in
+    c.unopened-in_default.ensures ∙ rw (c.before.verdict.ensures, t.enum_told-1.given.1) (sym (call-refused s.args.format s.args.recipe.now (format-allowed l.before.before) e))
 
 -- a note's bytes are there
-note-there : (c : tie.After-known-told2 invariant-loop decreases-loop)
-    → (loop_of c.before.before.before).loop.at + (4 + c.before.entry.given.0.0) ≤ length (entry (loop_of c.before.before.before)).args.recipe.now
-note-there c = let k = c.before.before.before in note-within (loop_of k).loop.invariant (left-some k) (noted c)
+note-there : (c : tie.In-Note invariant-loop decreases-loop)
+    → (loop_of c.before.before.before).loop-at.at + (4 + c.before.entry-1.given.0.0) ≤ length (entry (loop_of c.before.before.before)).args.recipe.now
+note-there c = let k = c.before.before.before in note-within (loop_of k).loop-at.invariant (left-some k) (noted c)
 
-loop-again : tie.Need-loop-preserved invariant-loop decreases-loop
-loop-again c = let k = c.before.before.before in opens-note (loop_of k).loop.invariant (left-some k) (noted c)
+loop-again : tie.Need-loop-at-preserved-in-Note invariant-loop decreases-loop
+loop-again c = let k = c.before.before.before in opens-note (loop_of k).loop-at.invariant (left-some k) (noted c)
 
-stage-of-requires : tie.Need-stage-of-requires invariant-loop decreases-loop
-stage-of-requires c κs = (loop_of c.before.before.before).loop.inv.rate
+stage-of-requires : tie.Need-stage_of-made-requires invariant-loop decreases-loop
+stage-of-requires c κs = (loop_of c.before.before.before).loop-at.invariant.rate
 
-returns-3 : tie.Need-returns-3 invariant-loop decreases-loop
+returns-3 : tie.Need-returns-in_default-made invariant-loop decreases-loop
 returns-3 c =
     let t = c.before.before in
     let m = t.before.before.before in
     let k = m.before.before.before in
     let l = loop_of k in
     let s = entry l in
-    let e = opens-unfit l.loop.inv (left-some k) (recorded m) (sym t.before.before.stage-of.ensures ∙ t.enum-told2.given.1) in
-    c.unopened3.ensures ∙ rw (c.before.verdict2.ensures, t.enum-told2.given.1) (sym (call-refused s.args.format s.args.recipe.now (format-allowed l.before.before) e))
+    let e = opens-unfit l.loop-at.invariant (left-some k) (recorded m) (sym t.before.before.stage_of-made.ensures ∙ t.enum_told-in_default-made-1.given.1) in
+    c.unopened-in_default-made.ensures ∙ rw (c.before.verdict-in_default-made.ensures, t.enum_told-in_default-made-1.given.1) (sym (call-refused s.args.format s.args.recipe.now (format-allowed l.before.before) e))
 
 -- the record of a stage that is taken
-abbrev record_of : tie.After-known-told4 invariant-loop decreases-loop → tie.After-known-told3 invariant-loop decreases-loop
+abbrev record_of : tie.In-Stage-made invariant-loop decreases-loop → tie.In-Stage invariant-loop decreases-loop
 record_of c = c.before.before.before.before
 
-sized : (c : tie.After-size invariant-loop decreases-loop)
-    → (loop_of (record_of c.before.before.before).before.before.before).loop.at + c.size.result ≤ length (entry (loop_of (record_of c.before.before.before).before.before.before)).args.recipe.now
+sized : (c : tie.After-size-at invariant-loop decreases-loop)
+    → (loop_of (record_of c.before.before.before).before.before.before).loop-at.at + c.size-at.result ≤ length (entry (loop_of (record_of c.before.before.before).before.before.before)).args.recipe.now
 sized c =
     let m = record_of c.before.before.before in
     let k = m.before.before.before in
-    rw c.size.ensures (opens-size (loop_of k).loop.inv (left-some k) (recorded m))
+    rw c.size-at.ensures (opens-size (loop_of k).loop-at.invariant (left-some k) (recorded m))
 
-room : (c : tie.After-new invariant-loop decreases-loop) → (loop_of (record_of c.before).before.before.before).loop.count < 8
+room : (c : tie.After-new-next invariant-loop decreases-loop) → (loop_of (record_of c.before).before.before.before).loop-at.count < 8
 room c =
     let m = record_of c.before in
     let k = m.before.before.before in
-    opens-room (loop_of k).loop.inv (left-some k) (recorded m) (taken c.before)
+    opens-room (loop_of k).loop-at.invariant (left-some k) (recorded m) (taken c.before)
 
 bytes_fit : (s : tie.Start invariant-loop decreases-loop) → length s.args.recipe.now < 2 ^ 64
 bytes_fit s = omega arith
 
-add_at : tie.Need-overflow-add-at invariant-loop decreases-loop
+add_at : tie.Need-overflow_add-at invariant-loop decreases-loop
 add_at c = let z = note-there c in let b = bytes_fit (entry (loop_of c.before.before.before)) in omega arith
 
-add-at-2 : tie.Need-overflow-add-at-2 invariant-loop decreases-loop
+add-at-2 : tie.Need-overflow_add-at-in-Note invariant-loop decreases-loop
 add-at-2 c = let z = note-there c in let b = bytes_fit (entry (loop_of c.before.before.before)) in omega arith
 
-loop-less : tie.Need-loop-smaller invariant-loop decreases-loop
+loop-less : tie.Need-loop-at-smaller-in-Note invariant-loop decreases-loop
 loop-less c = let z = note-there c in let t = left-some c.before.before.before in omega arith
 
-add-at-3 : tie.Need-overflow-add-at-3 invariant-loop decreases-loop
+add-at-3 : tie.Need-overflow_add-at-in-Stage invariant-loop decreases-loop
 add-at-3 c =
     let z = sized c in
     let b = bytes_fit (entry (loop_of (record_of c.before.before.before).before.before.before)) in
     omega arith
 
-loop-less-2 : tie.Need-loop-smaller-2 invariant-loop decreases-loop
+loop-less-2 : tie.Need-loop-at-smaller invariant-loop decreases-loop
 loop-less-2 c =
     let m = record_of c.before.before.before in
     let z = sized c in
     let t = left-some m.before.before.before in
-    let f = record_four m.before.entry2.given.0.0 in
-    let e = c.size.ensures in
+    let f = record_four m.before.entry-in-Stage-1.given.0.0 in
+    let e = c.size-at.ensures in
     omega arith
 
-loop-again-2 : tie.Need-loop-preserved-2 invariant-loop decreases-loop
+loop-again-2 : tie.Need-loop-at-preserved invariant-loop decreases-loop
 loop-again-2 c =
     let t = c.before.before.before in
     let m = record_of t in
     let k = m.before.before.before in
-    rw (c.before.before.new.ensures, c.before.format-after.ensures, c.size.ensures)
-    (opens-next (loop_of k).loop.inv (left-some k) (recorded m) (taken t))
+    rw (c.before.before.new-next.ensures, c.before.format_after-reaching.ensures, c.size-at.ensures)
+    (opens-next (loop_of k).loop-at.invariant (left-some k) (recorded m) (taken t))
 
-returns-4 : tie.Need-returns-4 invariant-loop decreases-loop
+returns-4 : tie.Need-returns invariant-loop decreases-loop
 returns-4 c =
     let l = c.before in
     let s = entry l in
-    let o = l.loop.invariant in
-    let e = call-opened s.args.format s.args.recipe.now (format-allowed l.before.before) (opens_end o c.loop-test.false) in
+    let o = l.loop-at.invariant in
+    let e = call-opened s.args.format s.args.recipe.now (format-allowed l.before.before) (opens_end o c.loop-at-test.false) in
     sym (e ∙ rw (chain_is s.args.format o.done, ← o.many, ← o.placed))
 
 pub open_spec : {M : Type 1} → statement M

@@ -13,39 +13,39 @@ use Rattle.pcm.specs.laws.Lists.{unmapped}
 use Rattle.pipeline.proofs.Pipeline.reset.Statement.{statement}
 use Rattle.pipeline.proofs.Pipeline.reset.Tie as tie
 
-abbrev invariant-loop : tie.invariant-loop
+abbrev invariant-loop : tie.invariant-loop-cleared
 invariant-loop self count stages₀ cleared₀ stages cleared = (cleared ≤ count) × (count ≤ 8) × (stages ≡ cleared_front cleared stages₀)
 
-abbrev decreases-loop : tie.decreases-loop
+abbrev decreases-loop : tie.decreases-loop-cleared
 decreases-loop self count stages₀ cleared₀ stages cleared = count - cleared
 
-eight : (c : tie.Start invariant-loop decreases-loop) → length c.args.self.stages ≡ 8
+eight : (c : tie.Start invariant-loop decreases-loop) → length c.args.self.stages-1 ≡ 8
 eight c = search (unmapped, rules)
 
-returns : tie.Need-returns invariant-loop decreases-loop
+returns : tie.Need-returns-then-count-gt8 invariant-loop decreases-loop
 unfolding reset_call
-returns c = rw (lt-leb _ 8 c.if1.true)
+returns c = rw (lt-leb _ 8 c.if-count-gt8.true)
 
-loop-holds : tie.Need-loop-init invariant-loop decreases-loop
-loop-holds c = (omega arith, c.before.if1.false, cleared_none _)
+loop-holds : tie.Need-loop-cleared-init invariant-loop decreases-loop
+loop-holds c = (omega arith, c.before.if-count-gt8.false, cleared_none _)
 
-loop-again : tie.Need-loop-preserved invariant-loop decreases-loop
+loop-again : tie.Need-loop-cleared-preserved invariant-loop decreases-loop
 loop-again c =
     let l = c.before.before.before in
     let s = l.before.before.before in
-    let v = l.loop.invariant in
-    (search rules, v.1, rw (add-one, c.reset.ensures, v.2) (cleared_next s.args.self.stages l.loop.cleared no_stage (omega (arith, eight s))))
+    let v = l.loop-cleared.invariant in
+    (search rules, v.1, rw (add-one, c.reset-quiet.ensures, v.2) (cleared_next s.args.self.stages-1 l.loop-cleared.cleared no_stage (omega (arith, eight s))))
 
-returns-2 : tie.Need-returns-2 invariant-loop decreases-loop
+returns-2 : tie.Need-returns invariant-loop decreases-loop
 unfolding reset_call cleared_front
 returns-2 c =
     let l = c.before.before in
-    let v = l.loop.invariant in
-    let e : l.loop.cleared ≡ l.before.before.before.args.self.count = omega arith in
+    let v = l.loop-cleared.invariant in
+    let e : l.loop-cleared.cleared ≡ l.before.before.before.args.self.count = omega arith in
     rw (le-leb _ 8 v.1) (rw (v.2, e))
 
-pub reset-spec : {M : Type 1} → statement M
-reset-spec = tie.close (tie.spec invariant-loop decreases-loop
+pub reset_spec : {M : Type 1} → statement M
+reset_spec = tie.close (tie.spec invariant-loop decreases-loop
     returns
     loop-holds
     (λ c. search rules) (λ c. search rules) (λ c κs. search rules) (λ c. search rules) (λ c. search rules) (λ c. search rules) (λ c. search rules)

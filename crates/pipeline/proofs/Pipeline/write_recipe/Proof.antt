@@ -14,46 +14,46 @@ use Rattle.pipeline.proofs.Writing.{few_verdict}
 use Rattle.pipeline.proofs.Pipeline.write_recipe.Statement.{statement}
 use Rattle.pipeline.proofs.Pipeline.write_recipe.Tie as tie
 
-returns : tie.Need-returns
+returns : tie.Need-returns-then-count-gt8
 unfolding write_call write_verdict
-returns c = let a = c.before.before.args in concluded (write_verdict a.self (length a.out.now)) (recipe_of (stages_of a.self)) a.out.now _ _ (Refused _) (rw (lt-leb _ 8 c.if1.true)) refl
+returns c = let a = c.before.before.args in concluded (write_verdict a.self (length a.out-1.now)) (recipe_of (stages_of a.self)) a.out-1.now _ _ (Refused _) (rw (lt-leb _ 8 c.if-count-gt8.true)) refl
 
-abbrev start : tie.After-require-room → tie.Start
+abbrev start : tie.After-require_room-room → tie.Start
 start c = c.before.before.before.before.before.before
 
 -- where room was asked: the verdict is what `require_room` answered
-asked : (c : tie.After-require-room) → let a = (start c).args in
-    write_verdict a.self (length a.out.now) ≡ c.require-room.result
+asked : (c : tie.After-require_room-room) → let a = (start c).args in
+    write_verdict a.self (length a.out-1.now) ≡ c.require_room-room.result
 asked c =
     let a = (start c).args in
-    few_verdict a.self a.out.now c.before.before.before.before.if1.false
-    ∙ ap (λ (n : ℕ). room_verdict n (length a.out.now)) (sym c.before.before.recipe-size.ensures) ∙ sym c.require-room.ensures
+    few_verdict a.self a.out-1.now c.before.before.before.before.if-count-gt8.false
+    ∙ ap (λ (n : ℕ). room_verdict n (length a.out-1.now)) (sym c.before.before.recipe_size-needed.ensures) ∙ sym c.require_room-room.ensures
 
 -- where it is there
-room : (c : tie.After-enum-told) → let a = (start c.before.before).args in
-    length (recipe_of (stages_of a.self)) ≤ length a.out.now
+room : (c : tie.In_default) → let a = (start c.before.before).args in
+    length (recipe_of (stages_of a.self)) ≤ length a.out-1.now
 room c =
     let q = c.before.before in
     let a = (start q).args in
-    room_enough _ _ (ap (λ (n : ℕ). room_verdict n (length a.out.now)) (sym q.before.before.recipe-size.ensures) ∙ sym q.require-room.ensures ∙ c.enum_told.given.1)
+    room_enough _ _ (ap (λ (n : ℕ). room_verdict n (length a.out-1.now)) (sym q.before.before.recipe_size-needed.ensures) ∙ sym q.require_room-room.ensures ∙ c.enum_told-1.given.1)
 
-returns-2 : tie.Need-returns-2
+returns-2 : tie.Need-returns-in-Refused
 unfolding write_call
 returns-2 c =
     let q = c.before.before.before in
     let a = (start q).args in
-    concluded (write_verdict a.self (length a.out.now)) (recipe_of (stages_of a.self)) a.out.now _ _ (Refused _) (asked q ∙ c.before.room.given.1) refl
+    concluded (write_verdict a.self (length a.out-1.now)) (recipe_of (stages_of a.self)) a.out-1.now _ _ (Refused _) (asked q ∙ c.before.room-1.given.1) refl
 
-returns-3 : tie.Need-returns-3
+returns-3 : tie.Need-returns
 unfolding write_call
 returns-3 c =
     let w = c.before.before in
     let q = w.before.before.before.before in
     let a = (start q).args in
-    wrote (write_verdict a.self (length a.out.now)) (recipe_of (stages_of a.self)) a.out.now _ _ q.before.before.recipe-size.ensures w.write-stages.ensures (asked q ∙ w.before.before.enum_told.given.1)
+    wrote (write_verdict a.self (length a.out-1.now)) (recipe_of (stages_of a.self)) a.out-1.now _ _ q.before.before.recipe_size-needed.ensures w.write_stages.ensures (asked q ∙ w.before.before.enum_told-1.given.1)
 
-pub write-recipe-spec : {M : Type 1} → statement M
-write-recipe-spec = tie.close (tie.spec
+pub write_recipe_spec : {M : Type 1} → statement M
+write_recipe_spec = tie.close (tie.spec
     returns
     (λ c κs. search rules) (λ c κs. search rules) (λ c. search rules) (λ c. search rules)
     returns-2

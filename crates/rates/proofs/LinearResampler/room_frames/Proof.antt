@@ -11,6 +11,6 @@ returns : tie.Need-returns
 unfolding room_frames
 returns c = search rules
 
-pub room-frames-spec : {M : Type 1} → statement M
-room-frames-spec = tie.close (tie.spec (λ c. search rules) (λ c. search rules) (λ c. search rules) (λ c. search rules) (λ c. search rules) (λ c. search rules)
+pub room_frames_spec : {M : Type 1} → statement M
+room_frames_spec = tie.close (tie.spec (λ c. search rules) (λ c. search rules) (λ c. search rules) (λ c. search rules) (λ c. search rules) (λ c. search rules)
     (λ c. let a = c.before.before.args in record { fits = omega (arith, div-le_self (a.frames * a.self.out_rate + (a.self.in_rate - 1)) a.self.in_rate) }) returns)

@@ -6,17 +6,17 @@ use Rattle.recipe.specs.Records.{read_record, record_verdict}
 use Rattle.recipe.proofs.Record.read.Statement.{statement}
 use Rattle.recipe.proofs.Record.read.Tie as tie
 
-verdict_is : (c : tie.After-enum-told) → record_verdict c.before.before.before.before.args.left.now ≡ Accepted
-verdict_is c = sym c.before.before.record-question.ensures ∙ c.enum_told.given.1
+verdict_is : (c : tie.In-Accepted) → record_verdict c.before.before.before.before.args.left.now ≡ Accepted
+verdict_is c = sym c.before.before.record_question-v.ensures ∙ c.enum_told-1.given.1
 
-returns : tie.Need-returns
+returns : tie.Need-returns-in-Accepted
 unfolding read_record
 returns c = rw (verdict_is c.before, c.entry_of.ensures)
 
-returns-2 : tie.Need-returns-2
+returns-2 : tie.Need-returns-in-Refused
 unfolding read_record
 returns-2 c =
-    let v = sym c.before.before.before.record-question.ensures ∙ c.before.v.given.1 in
+    let v = sym c.before.before.before.record_question-v.ensures ∙ c.before.v-1.given.1 in
     rw v
 
 pub read_spec : {M : Type 1} → statement M

@@ -27,7 +27,7 @@ returns c =
     let z = k.before.before.before.before.before in
     let s = z.before.before.before.before in
     let n : z.before.size.result - 2 ≡ 2 + 4 * length (fields_of s.args.self) = omega (arith, sized z.before) in
-    f.write-fields.ensures ∙ rw (k.put-u162.ensures, k.before.kind.ensures, z.put-u16.ensures, n) (record_stored s.args.self s.args.out.now s.requires)
+    f.write_fields.ensures ∙ rw (k.put_u16-2.ensures, k.before.kind.ensures, z.put_u16.ensures, n) (record_stored s.args.self s.args.out.now s.requires)
 
 pub write_spec : {M : Type 1} → statement M
 write_spec = tie.close (tie.spec
@@ -36,6 +36,6 @@ write_spec = tie.close (tie.spec
     (λ c. omega (arith, sized c, small c))
     (λ c κs. omega (arith, room c.before.before.before))
     (λ c κs. search rules)
-    (λ c κs. let p = c.before.before.before.before in omega (arith, room p.before.before.before.before, simp length-set at (ap length p.put-u16.ensures)))
+    (λ c κs. let p = c.before.before.before.before in omega (arith, room p.before.before.before.before, simp length-set at (ap length p.put_u16.ensures)))
     (λ c κs. search rules) (λ c. search rules)
     returns)

@@ -3,5 +3,5 @@ use borrow.Author.Rules.{rules}
 use Rattle.recipe.proofs.RecordAnswer.verdict.Statement.{statement}
 use Rattle.recipe.proofs.RecordAnswer.verdict.Tie as tie
 
-pub verdict-spec : {M : Type 1} → statement M
-verdict-spec = tie.close (tie.spec (λ c. search rules) (λ c. search rules) (λ c. search rules) (λ c. rw c.before.self.given.1))
+pub verdict_spec : {M : Type 1} → statement M
+verdict_spec = tie.close (tie.spec (λ c. search rules) (λ c. search rules) (λ c. search rules) (λ c. rw c.before.self-1.given.1))

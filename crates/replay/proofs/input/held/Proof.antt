@@ -5,10 +5,10 @@ use lib.Seq.{length-take-le}
 use Rattle.replay.proofs.input.held.Statement.{statement}
 use Rattle.replay.proofs.input.held.Tie as tie
 
-returns : tie.Need-returns
-returns c = (c.if1.true, sym (length-take-le _ _ c.if1.true))
+returns : tie.Need-returns-then-n-buf
+returns c = (c.if-n-buf.true, sym (length-take-le _ _ c.if-n-buf.true))
 
-returns-2 : tie.Need-returns-2
+returns-2 : tie.Need-returns-else-n-buf
 returns-2 c = search rules
 
 pub held_spec : {M : Type 1} → statement M

@@ -9,8 +9,8 @@ use Rattle.resample.proofs.Position.past.Tie as tie
 product : (f o : ℕ) → f < 4294967296 → o ≤ 384000 → f * o ≤ 4294967296 * 384000
 product f o h k = mul-le-mul (le_of_lt h) k
 
-pub past-spec : {M : Type 1} → statement M
-past-spec = tie.close (tie.spec (λ c. search rules)
+pub past_spec : {M : Type 1} → statement M
+past_spec = tie.close (tie.spec (λ c. search rules)
     (λ c. let s = c.before.before in record { fits = omega (arith, product s.args.self.frac s.args.out_r s.requires.0.0.small s.requires.0.1) })
     (λ c. let s = c.before.before.before in record { fits = omega (arith, s.requires.0.0.rest, s.requires.0.1, product s.args.self.frac s.args.out_r s.requires.0.0.small s.requires.0.1) })
     (λ c. search rules) (λ c. search rules) (λ c. search rules))

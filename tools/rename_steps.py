@@ -1,0 +1,173 @@
+#!/usr/bin/env python3
+"""Brings the function proofs of crates from an older kit's names of steps, needs and places to the installed kit's.
+
+usage: python3 tools/rename_steps.py NAMES CRATE.., at the top, once for each crate, after `rt names NAMES`.
+"""
+import json
+import os
+import re
+import sys
+
+IDENT = re.compile(r"[^\s(){}\[\],;λ«»⌜⌝\"`]+")
+FIXED = {
+    "type-inv": "type_inv", "well-formed": "well_formed", "ghost-name": "ghost_name", "ref-ptr": "ref_ptr",
+    "inv": "invariant",
+}
+# The names of src/ that have an underscore.
+RUST = set()
+# What follows these is a variable of the code.
+VARIABLES = {"args", "ranges", "new", "auto"}
+# What follows these is no step.
+OWN = {"invariant", "requires", "ensures", "result"}
+
+
+def norm(n):
+    return n.replace("_", "-")
+
+
+class Names:
+    def __init__(self, entry):
+        self.needs = {}
+        for old, new in entry["needs"]:
+            self.needs.setdefault(norm(old), new)
+        for s in entry.get("settled", []):
+            self.needs.setdefault(norm(s), s)
+        self.places, self.fields, self.of_call = {}, {}, {}
+        for place, new in zip(entry["places"], entry["places_by_name"]):
+            self.places[norm(place[0])] = new
+            old, now = place[2]
+            if old and (now != old + "-1" or "_" in old):
+                self.fields.setdefault(norm(old), now)
+                if place[3] and place[3] in entry["params"]:
+                    self.of_call[norm(old)] = entry["params"][place[3]]
+        # what an arm binds, and that the value is the variant
+        self.arms = {}
+        for arm in entry["arms"]:
+            for name, step, path in arm[2] if arm else []:
+                if path:
+                    self.arms[(norm(step), *path)] = [arm[0], name]
+        self.loops = {}
+        for (old, new), _ in entry["loops"]:
+            self.loops[norm(old)] = new
+        self.args = [(o.replace(" ", ""), n.replace(" ", "")) for o, n in entry["args"]]
+
+    def need(self, n):
+        n = norm(n)
+        for c in (n, n.replace("overflow-", "", 1)):
+            if c in self.needs:
+                return self.needs[c]
+        return None
+
+
+def turn_path(parts, names, aliases, miss):
+    """The parts of a.b.c"""
+    head, out = parts[0], []
+    if head == "tie" and len(parts) == 2:
+        n = parts[1]
+        if n.startswith("Need-"):
+            new = names.need(n[5:])
+            if new is None:
+                miss.append(n)
+                return parts
+            return ["tie", "Need-" + new]
+        for kind in ("invariant-", "decreases-"):
+            if n.startswith(kind):
+                new = names.loops.get(norm(n[len(kind):]))
+                return ["tie", kind + new] if new else parts
+        new = names.places.get(norm(n))
+        return ["tie", new] if new else parts
+    out.append(head)
+    before = None
+    rest = parts[1:]
+    while rest:
+        p, rest = rest[0], rest[1:]
+        k = norm(p)
+        last, before = before, k
+        arm = next((n for n in (3, 2, 1) if (k, *rest[:n]) in names.arms and len(rest) >= n), None)
+        if k == "before" and rest and rest[0] != "before":
+            continue
+        elif k == "before" and any(r != "before" for r in rest):
+            continue
+        elif arm and last not in VARIABLES and last not in names.loops:
+            out += names.arms[(k, *rest[:arm])]
+            rest = rest[arm:]
+        elif last in VARIABLES or last in names.loops:
+            out.append("invariant" if p == "inv" else p.replace("-", "_"))
+        elif p in ("auto", "new") and last in names.of_call and rest and rest[0] in ("0", "1"):
+            # nested pairs, one for each parameter
+            k = 0
+            while rest and rest[0] == "1":
+                k, rest = k + 1, rest[1:]
+            rest = rest[1:] if rest[:1] == ["0"] else rest
+            out += [p, names.of_call[last][k]]
+            before = p
+        elif last in OWN:
+            out.append(p.replace("-", "_") if p.replace("-", "_") in RUST else p)
+            before = last
+        elif k in names.fields:
+            out.append(names.fields[k])
+        elif "-" in p and p.replace("-", "_") in RUST:
+            out.append(p.replace("-", "_"))
+        elif p in FIXED:
+            out.append(FIXED[p])
+        else:
+            out.append(p)
+    return out
+
+
+def turned(text, names, function, miss):
+    own = norm(function) + "-spec"
+
+    def one(m):
+        t = m.group(0)
+        if norm(t) == own:
+            return function + "_spec"
+        if "." in t and not t.startswith("Rattle") and not re.match(r"(borrow|mathlib|lib|native|mir|Prim|denote|logic)\.", t):
+            lead = "." if t.startswith(".") else ""
+            parts = t[len(lead):].split(".")
+            if lead:
+                parts = ["x"] + parts
+            new = turn_path(parts, names, None, miss)
+            return lead + ".".join(new[1:] if lead else new)
+        return t
+
+    lines = []
+    for line in text.split("\n"):
+        lines.append(line if line.startswith("use ") or line.startswith("--") else IDENT.sub(one, line))
+    text = "\n".join(lines)
+    for o, n in names.args:
+        text = re.sub(re.escape(o) + r"(?![\w'-])", n, text)
+    return text
+
+
+def main():
+    where, crates = sys.argv[1], sys.argv[2:]
+    for folder, _, files in os.walk("crates"):
+        for n in files:
+            if n.endswith(".rt"):
+                with open(os.path.join(folder, n), encoding="utf-8") as f:
+                    RUST.update(re.findall(r"[a-z][a-z0-9]*_[a-z0-9_]*", f.read()))
+    for c in crates:
+        with open(os.path.join(where, "crates", c, "names.json"), encoding="utf-8") as f:
+            listed = json.load(f)
+        top = os.path.join("crates", c, "proofs")
+        for folder, _, files in os.walk(top):
+            if "Proof.antt" not in files:
+                continue
+            path = os.path.relpath(folder, top).replace("/", ".")
+            entry = listed.get(f"Rattle-{c}-proofs.{path}.Lts")
+            if entry is None:
+                print(f"{c}: no names for {path}")
+                continue
+            p = os.path.join(folder, "Proof.antt")
+            with open(p, encoding="utf-8") as f:
+                old = f.read()
+            miss = []
+            new = turned(old, Names(entry), path.split(".")[-1], miss)
+            for n in miss:
+                print(f"{c}: {path}: no need {n}")
+            with open(p, "w", encoding="utf-8") as f:
+                f.write(new)
+
+
+main()
