@@ -11,7 +11,7 @@ import sys
 IDENT = re.compile(r"[^\s(){}\[\],;λ«»⌜⌝\"`]+")
 FIXED = {
     "type-inv": "type_inv", "well-formed": "well_formed", "ghost-name": "ghost_name", "ref-ptr": "ref_ptr",
-    "inv": "invariant",
+    "inv": "invariant", "pre": "requires", "post": "ensures",
 }
 # The names of src/ that have an underscore.
 RUST = set()
@@ -49,6 +49,24 @@ class Names:
         self.loops = {}
         for (old, new), _ in entry["loops"]:
             self.loops[norm(old)] = new
+        # the place before each place, and the one before the arm that it stands in
+        index = {place[0]: i for i, place in enumerate(entry["places"])}
+        self.before = [index.get(place[1]) for place in entry["places"]]
+        self.named = {n: i for i, n in enumerate(entry["places_by_name"])}
+        self.out_of = []
+        for i, arm in enumerate(entry["arms"]):
+            j = self.before[i]
+            for _ in range(arm[1] - 1 if arm else 0):
+                j = self.before[j]
+            self.out_of.append(j)
+        self.group = []
+        for i, arm in enumerate(entry["arms"]):
+            j = i
+            for _ in range(arm[1] - 1 if arm else 0):
+                j = self.before[j]
+            self.group.append(j if arm else None)
+        self.asked = [self.named.get(a[1]) for a in entry["asked_at"]]
+        self.need_at = {new: at for (_, new), at in zip(entry["needs"], self.asked)}
         self.args = [(o.replace(" ", ""), n.replace(" ", "")) for o, n in entry["args"]]
 
     def need(self, n):
@@ -140,6 +158,107 @@ def turned(text, names, function, miss):
     return text
 
 
+def steps(names, start, k):
+    """Where k steps back led from a place, a pair of what it was and is, and how many steps lead there today; None where none do."""
+    to, at = start
+    for _ in range(k):
+        if to is None:
+            return None
+        to = names.before[to]
+    n = 0
+    while at is not None and at != to:
+        if names.group[at] is not None and to is not None and names.group[at] == names.group[to]:
+            break
+        at, n = names.out_of[at], n + 1
+    return (n, (to, at)) if at is not None and to is not None else None
+
+
+CHAIN = re.compile(r"(?<![\w.'-])([\w'-]+)((?:\.before)+)(?![\w.'-])")
+LET = re.compile(r"let ([\w'-]+) = ([\w'-]+)((?:\.before)+)(?= in)")
+
+
+def rechain(line, names, places, roots):
+    """A line whose chains of steps back lead to a place and no further, counted as today's places stand."""
+
+    def one(m):
+        y, k = m.group(1), m.group(2).count(".before")
+        found = steps(names, places[y], k) if y in places else None
+        return m.group(0) if found is None else y + ".before" * found[0]
+
+    pos, new = 0, ""
+    for m in LET.finditer(line):
+        new += CHAIN.sub(one, line[pos:m.start()])
+        x, y, k = m.group(1), m.group(2), m.group(3).count(".before")
+        found = steps(names, places[y], k) if y in places else None
+        if found:
+            places[x], roots[x] = found[1], roots.get(y, y)
+            new += f"let {x} = {y}" + ".before" * found[0]
+        else:
+            places.pop(x, None)
+            roots.pop(x, None)
+            new += m.group(0)
+        pos = m.end()
+    new += CHAIN.sub(one, line[pos:])
+    # what an earlier place knows, a later one knows too
+    return re.sub(r"(?<![\w.'-])([\w'-]+)(?=\.(?!before)[a-z])", lambda m: roots.get(m.group(1), m.group(1)), new)
+
+
+def at(names, place):
+    i = names.named.get(place)
+    return None if i is None else (i, i)
+
+
+def rechained(text, names):
+    head, spec, tail = text.partition("tie.close (tie.spec")
+    places, needs_of, roots = {}, {}, {}
+    lines = head.split("\n")
+    for n, line in enumerate(lines):
+        if line[:1] not in (" ", "", ")"):
+            places, roots = {}, {}
+            m = re.match(r"([\w'-]+) : tie\.Need-([\w'-]+)", line)
+            if m and names.need_at.get(m.group(2)) is not None:
+                needs_of[m.group(1)] = (names.need_at[m.group(2)],) * 2
+            m = re.match(r"([\w'-]+) :", line)
+            if m and m.group(1) not in needs_of:
+                t = [at(names, x) for x in re.findall(r"tie\.([A-Z][\w'-]*)", line)]
+                if t and t[0]:
+                    needs_of[m.group(1)] = t[0]
+            m = re.match(r"([\w'-]+) (\w+)", line)
+            if m and m.group(1) in needs_of:
+                places[m.group(2)] = needs_of[m.group(1)]
+        for m in re.finditer(r"\((\w+) : tie\.([A-Z][\w'-]*)", line):
+            if at(names, m.group(2)):
+                places[m.group(1)] = at(names, m.group(2))
+        lines[n] = rechain(line, names, places, roots)
+    out, i, k, first = "\n".join(lines) + spec, 0, 0, 2 * len(names.loops)
+    while i < len(tail):
+        if tail[i] != "(" or tail[i - 1:i] not in (" ", "\n"):
+            m = re.match(r"[\w'-]+", tail[i:])
+            if m and tail[i - 1:i] in (" ", "\n"):
+                k += 1
+                out += m.group(0)
+                i += m.end()
+                continue
+            out += tail[i]
+            i += 1
+            continue
+        depth, j = 0, i
+        while j < len(tail):
+            depth += {"(": 1, ")": -1}.get(tail[j], 0)
+            j += 1
+            if depth == 0:
+                break
+        argument = tail[i:j]
+        m = re.match(r"\(λ (\w+)", argument)
+        need = k - first
+        if m and 0 <= need < len(names.asked) and names.asked[need] is not None:
+            places, roots = {m.group(1): (names.asked[need],) * 2}, {}
+            argument = "\n".join(rechain(line, names, places, roots) for line in argument.split("\n"))
+        out += argument
+        k, i = k + 1, j
+    return out
+
+
 def main():
     where, crates = sys.argv[1], sys.argv[2:]
     for folder, _, files in os.walk("crates"):
@@ -163,7 +282,8 @@ def main():
             with open(p, encoding="utf-8") as f:
                 old = f.read()
             miss = []
-            new = turned(old, Names(entry), path.split(".")[-1], miss)
+            names = Names(entry)
+            new = rechained(turned(old, names, path.split(".")[-1], miss), names)
             for n in miss:
                 print(f"{c}: {path}: no need {n}")
             with open(p, "w", encoding="utf-8") as f:

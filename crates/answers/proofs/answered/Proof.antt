@@ -8,4 +8,4 @@ pub answered_spec : {M : Type 1} → statement M
 answered_spec = tie.close (tie.spec
     (λ c. rw c.if-len-eq0.true)
     (λ c κs. search rules)
-    (λ c. rw (ne_eqb _ 0 c.before.if-len-eq0.false, c.last_half-half.ensures)))
+    (λ c. rw (ne_eqb _ 0 c.if-len-eq0.false, c.last_half-half.ensures)))

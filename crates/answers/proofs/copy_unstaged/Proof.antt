@@ -6,7 +6,7 @@ use Rattle.answers.proofs.copy_unstaged.Tie as tie
 
 pub copy_unstaged_spec : {M : Type 1} → statement M
 copy_unstaged_spec = tie.close (tie.spec
-    (λ c κs. c.before.before.before.before.requires c.before.if-count-eq0.true)
+    (λ c κs. c.requires c.if-count-eq0.true)
     (λ c. search rules)
-    (λ c. rw c.before.before.before.before.if-count-eq0.true c.before.before.copy_front.ensures)
+    (λ c. rw c.if-count-eq0.true c.copy_front.ensures)
     (λ c. rw (ne_eqb _ 0 c.if-count-eq0.false)))

@@ -7,5 +7,5 @@ use Rattle.answers.proofs.count_empty.Tie as tie
 pub count_empty_spec : {M : Type 1} → statement M
 count_empty_spec = tie.close (tie.spec
     (λ c κs. search rules)
-    (λ c. rw c.before.if-len-eq0.true c.count_up.ensures)
+    (λ c. rw c.if-len-eq0.true c.count_up.ensures)
     (λ c. rw (ne_eqb _ 0 c.if-len-eq0.false)))

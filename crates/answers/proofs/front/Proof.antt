@@ -14,5 +14,5 @@ front_spec =
     (tie.spec
     (λ c. sym (length-take-le _ _ (omega arith)))
     (λ c. search rules)
-    (λ c. let a = c.before.before.args in simp (le-leb a.len (length a.s.now) (omega arith)))
-    (λ c. let a = c.before.before.args in simp (lt-leb a.len (length a.s.now) (omega arith))))
+    (λ c. let a = c.args in simp (le-leb a.len (length a.s.now) (omega arith)))
+    (λ c. let a = c.args in simp (lt-leb a.len (length a.s.now) (omega arith))))

@@ -26,5 +26,5 @@ last_half_spec =
     (tie.spec
     (λ c. first _ c.if-count-eq0.true)
     (λ c. search rules)
-    (λ c. even _ c.before.if-count-eq0.false c.if-count-eq0-2.true)
-    (λ c. odd _ c.before.if-count-eq0.false c.if-count-eq0-2.false))
+    (λ c. even _ c.if-count-eq0.false c.if-count-eq0-2.true)
+    (λ c. odd _ c.if-count-eq0.false c.if-count-eq0-2.false))

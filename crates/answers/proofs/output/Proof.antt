@@ -7,5 +7,5 @@ pub output_spec : {M : Type 1} → statement M
 output_spec =
     tie.close
     (tie.spec (λ c. search rules) (λ c κs. search rules) (λ c. search rules) (λ c κs. search rules)
-    (λ c. rw c.before.enum_told-1.given.1 c.front.ensures)
-    (λ c. rw c.before.enum_told-in-B-1.given.1 c.front-in-B.ensures))
+    (λ c. rw c.in-A.is c.front.ensures)
+    (λ c. rw c.in-B.is c.front-in-B.ensures))

@@ -43,7 +43,7 @@ loop-again c =
     let at-get = at-get2.before.before in
     let at-loop = at-get.before.before in
     let s = start c in
-    filtering-stereo s.pre.room (search rules) s.pre.whole at-loop.loop-i.invariant
+    filtering-stereo s.requires.room (search rules) s.requires.whole at-loop.loop-i.invariant
     (ticked _ _ at-output.output-ly.ensures (answered w16 at-get.get_i16-lx.type_inv at-get.get_i16-lx.ensures))
     (ticked _ _ at-output2.output-ry.ensures (answered w16 at-get2.get_i16-rx.type_inv at-get2.get_i16-rx.ensures))
     at-put.put_i16.ensures

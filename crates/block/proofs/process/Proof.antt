@@ -43,32 +43,32 @@ module _ (c : tie.After-begun-walk invariant-loop decreases-loop invariant-loop2
   s = c.before.before.before.before.before.before.before.before
 
   head : head_legal s.args.chain.format s.args.chain.count ≡ true
-  head = sym c.before.before.before.head_legal.ensures ∙ not-false _ c.before.before.if-not-head_legal.false
+  head = sym c.head_legal.ensures ∙ not-false _ c.if-not-head_legal.false
 
   eight : length s.args.chain.stages ≡ 8
   eight = search (unmapped, rules)
 
   bytes : Bytes s.args.block.now
-  bytes = all_by_index (λ (x : ℕ). x < 256) 0 s.args.block.now (λ i h. omega (arith, c.before.before.before.before.before.before.before.shared_slice_known-1.given i))
+  bytes = all_by_index (λ (x : ℕ). x < 256) 0 s.args.block.now (λ i h. omega (arith, c.shared_slice_known-1.given i))
 
 -- ---- where they are answered
 asked_all : (v : tie.After-verdict-verdict invariant-loop decreases-loop invariant-loop2 decreases-loop2) → let b = v.before.before.before in let a = (s b).args in
-    block_verdict a.t1 a.format (length a.block.now) (shorter a.a-1.now a.b-1.now) ≡ v.verdict-verdict.result
+    block_verdict a.t1 a.format (length a.block.now) (shorter a.a.now a.b.now) ≡ v.verdict-verdict.result
 asked_all v =
     let l = v.before.before in
     let b = l.before in
     let a = (s b).args in
-    ap (block_verdict a.t1 a.format (length a.block.now)) (sym b.before.shorter_of-shorter.ensures)
-    ∙ walk_verdict a.t1 a.format (length a.block.now) _ _ _ _ (head b) (eight b) b.begun-walk.ensures
-    (asks_end _ _ _ _ _ _ _ _ l.loop-i.invariant v.before.loop-i-test.false) v.verdict-verdict.ensures
+    ap (block_verdict a.t1 a.format (length a.block.now)) (sym v.shorter_of-shorter.ensures)
+    ∙ walk_verdict a.t1 a.format (length a.block.now) _ _ _ _ (head b) (eight b) v.begun-walk.ensures
+    (asks_end _ _ _ _ _ _ _ _ v.loop-i.invariant v.loop-i-test.false) v.verdict-verdict.ensures
 
 -- ---- where the block is accepted
 module _ (e : tie.In_default invariant-loop decreases-loop invariant-loop2 decreases-loop2) where
   abbrev b : tie.After-begun-walk invariant-loop decreases-loop invariant-loop2 decreases-loop2
-  b = e.before.before.before.before.before
+  b = e.before.before.before.before
 
   accepted : block_verdict (s b).args.chain (s b).args.format (length (s b).args.block.now) (shorter (s b).args.a.now (s b).args.b.now) ≡ Accepted
-  accepted = asked_all e.before.before ∙ e.enum_told-1.given.1
+  accepted = asked_all e.before ∙ e.in_default.is
 
   takes : Accepts (s b).args.chain (s b).args.block.now (s b).args.a.now (s b).args.b.now
   takes = accepts (s b).args.chain (s b).args.format (s b).args.block.now (s b).args.a.now (s b).args.b.now accepted
@@ -82,64 +82,64 @@ process_spec = tie.close (tie.spec
     decreases-loop2
     (λ c κs. search rules) (λ c κs. search rules)
     (λ c.
-    let a = c.before.before.before.before.before.before.before.args in
-    with_told a.t1 a.format a.timestamp a.block.now a.a-1.now a.b-1.now _
-    (refused_is a.t1 a.format a.timestamp a.block.now a.a-1.now a.b-1.now _ _ _ c.refused.ensures.0 c.refused.ensures.1
-    (head_refused a.t1 a.format _ _ (sym c.before.before.head_legal.ensures ∙ not-true _ c.before.if-not-head_legal.true))))
+    let a = c.args in
+    with_told a.t1 a.format a.timestamp a.block.now a.a.now a.b.now _
+    (refused_is a.t1 a.format a.timestamp a.block.now a.a.now a.b.now _ _ _ c.refused.ensures.0 c.refused.ensures.1
+    (head_refused a.t1 a.format _ _ (sym c.head_legal.ensures ∙ not-true _ c.if-not-head_legal.true))))
     (λ c κs. search rules)
-    (λ c κs. let a = c.before.before.before.before.before.before.before.args in (head_parts a.t1.format a.t1.count (sym c.before.before.head_legal.ensures ∙ not-false _ c.before.if-not-head_legal.false)).channels)
+    (λ c κs. let a = c.args in (head_parts a.t1.format a.t1.count (sym c.head_legal.ensures ∙ not-false _ c.if-not-head_legal.false)).channels)
     (λ c. asks_first _ _ _ _ _ _ _ _ (head c) (eight c) c.begun-walk.ensures)
     (λ c. search rules) (λ c. search rules)
-    (λ c κs. asks_fits _ _ _ _ _ _ _ _ c.before.before.loop-i.invariant c.before.loop-i-test.true)
+    (λ c κs. asks_fits _ _ _ _ _ _ _ _ c.loop-i.invariant c.loop-i-test.true)
     (λ c. search rules) (λ c. search rules)
-    (λ c. asks_next _ _ _ _ _ _ _ _ c.before.before.before.loop-i.invariant c.before.before.loop-i-test.true _ c.asked-walk.ensures)
-    (λ c κs. ((head_parts (s c.before.before).args.chain.format (s c.before.before).args.chain.count (head c.before.before)).channels.0, c.before.loop-i.invariant.within.short))
+    (λ c. asks_next _ _ _ _ _ _ _ _ c.loop-i.invariant c.loop-i-test.true _ c.asked-walk.ensures)
+    (λ c κs. ((head_parts (s c.before.before).args.chain.format (s c.before.before).args.chain.count (head c.before.before)).channels.0, c.loop-i.invariant.within.short))
     (λ c. search rules) (λ c κs. search rules)
     (λ c.
-    let v = c.before.before.before.before in
+    let v = c.before.before in
     let a = (s v.before.before.before).args in
-    with_told a.t1 a.format a.timestamp a.block.now a.a-1.now a.b-1.now _
-    (refused_is a.t1 a.format a.timestamp a.block.now a.a-1.now a.b-1.now _ _ _ c.refused-in-Refused.ensures.0 c.refused-in-Refused.ensures.1 (asked_all v ∙ c.before.before.verdict-1.given.1)))
+    with_told a.t1 a.format a.timestamp a.block.now a.a.now a.b.now _
+    (refused_is a.t1 a.format a.timestamp a.block.now a.a.now a.b.now _ _ _ c.refused-in-Refused.ensures.0 c.refused-in-Refused.ensures.1 (asked_all v ∙ c.in-Refused.is)))
     (λ c. search rules)
     (λ c κs.
     let e = c.before in
     let a = (s (b e)).args in
-    λ z. omega (arith, copy_room_lem a.t1 a.block.now a.a-1.now a.b-1.now z (takes e), shorter_a a.a-1.now a.b-1.now))
+    λ z. omega (arith, copy_room_lem a.t1 a.block.now a.a.now a.b.now z (takes e), shorter_a a.a.now a.b.now))
     (λ c.
     let e = c.before.before.before.before in
     let a = (s (b e)).args in
-    plays-first a.t1 a.block.now a.a-1.now a.b-1.now (takes e) (eight (b e)) (bytes (b e)) _ _ c.before.before.copy_unstaged.ensures (b e).before.shorter_of-shorter.ensures)
+    plays-first a.t1 a.block.now a.a.now a.b.now (takes e) (eight (b e)) (bytes (b e)) _ _ c.copy_unstaged.ensures (b e).shorter_of-shorter.ensures)
     (λ c. search rules) (λ c. search rules)
-    (λ c κs. turn-asks _ _ _ _ _ _ _ _ _ _ _ _ c.before.before.before.before.loop-i-2.invariant c.before.before.before.loop-i-2-test.true)
+    (λ c κs. turn-asks _ _ _ _ _ _ _ _ _ _ _ _ c.loop-i-2.invariant c.loop-i-2-test.true)
     (λ c κs. search rules) (λ c. search rules) (λ c. search rules)
     (λ c.
     let t = c.before.before.before.before.before.before.before in
     let l = t.before.before.before.before.before in
-    record { fits = omega (arith, sum_fits _ _ _ _ _ _ _ _ _ _ _ _ l.loop-i-2.invariant t.before.before.before.before.loop-i-2-test.true t.turn-t.ensures.does.holds) })
+    record { fits = omega (arith, sum_fits _ _ _ _ _ _ _ _ _ _ _ _ c.loop-i-2.invariant c.loop-i-2-test.true c.turn-t.ensures.does.holds) })
     (λ c κs. search rules) (λ c κs. search rules)
     (λ c.
     let t = c.before.before.before.before.before.before.before.before.before in
     let l = t.before.before.before.before.before in
-    next_less l.loop-i-2.i (s (b l.before.before.before.before.before)).args.chain.count t.turn-t.result.len _ t.before.before.before.before.loop-i-2-test.true c.next_stage-i.ensures)
+    next_less c.loop-i-2.i (s (b l.before.before.before.before.before)).args.chain.count c.turn-t.result.len _ c.loop-i-2-test.true c.next_stage-i.ensures)
     (λ c.
     let j = c.before.before.before in
     let t = j.before.before.before.before.before.before in
     let l = t.before.before.before.before.before in
     ⊎_elim
-    (λ w. stored _ _ _ _ _ _ _ _ _ _ _ _ l.loop-i-2.invariant t.before.before.before.before.loop-i-2-test.true _ _ _ _ _ t.turn-t.ensures c.before.format_after-reaching.ensures _ c.next_stage-i.ensures _ w.2)
-    (λ w. stayed _ _ _ _ _ _ _ _ _ _ _ _ l.loop-i-2.invariant t.before.before.before.before.loop-i-2-test.true _ _ _ _ _ t.turn-t.ensures c.before.format_after-reaching.ensures _ c.next_stage-i.ensures _ w.1 (sym j.before.remembers.ensures ∙ w.0.left))
-    j.if-remembers.branch)
+    (λ w. stored _ _ _ _ _ _ _ _ _ _ _ _ c.loop-i-2.invariant c.loop-i-2-test.true _ _ _ _ _ c.turn-t.ensures c.format_after-reaching.ensures _ c.next_stage-i.ensures _ w.2)
+    (λ w. stayed _ _ _ _ _ _ _ _ _ _ _ _ c.loop-i-2.invariant c.loop-i-2-test.true _ _ _ _ _ c.turn-t.ensures c.format_after-reaching.ensures _ c.next_stage-i.ensures _ w.1 (sym c.remembers.ensures ∙ w.0.left))
+    c.if-remembers.branch)
     (λ c κs. search rules) (λ c κs. search rules) (λ c κs. search rules)
     (λ c.
     let l = c.before.before.before.before in
     let e = l.before.before.before.before.before in
     let a = (s (b e)).args in
-    l.loop-i-2.invariant.same_a ∙ length-first a.t1 a.block.now a.a-1.now a.b-1.now (takes e) (eight (b e)) (bytes (b e)) _ _ l.before.before.before.copy_unstaged.ensures (b e).before.shorter_of-shorter.ensures)
-    (λ c. c.before.before.before.before.loop-i-2.invariant.same_b)
+    c.loop-i-2.invariant.same_a ∙ length-first a.t1 a.block.now a.a.now a.b.now (takes e) (eight (b e)) (bytes (b e)) _ _ c.copy_unstaged.ensures (b e).shorter_of-shorter.ensures)
+    (λ c. c.loop-i-2.invariant.same_b)
     (λ c.
     let l = c.before.before.before.before in
     let e = l.before.before.before.before.before in
     let a = (s (b e)).args in
-    with_told a.t1 a.format a.timestamp a.block.now a.a-1.now a.b-1.now _
-    (concludes a.t1 a.format a.timestamp a.block.now a.a-1.now a.b-1.now (takes e) (eight (b e)) (bytes (b e)) _ l.before.before.before.copy_unstaged.ensures _ _ _ _
-    (at_end _ _ _ _ _ _ _ _ _ _ _ _ l.loop-i-2.invariant c.before.before.before.loop-i-2-test.false) _ (clips_end _ _ _ _ _ _ _ _ _ _ _ _ l.loop-i-2.invariant c.before.before.before.loop-i-2-test.false) l.loop-i-2.chain l.loop-i-2.invariant.chain _ _ _ c.before.before.count_up-blocks.ensures c.before.count_empty-empty_blocks.ensures c.answered-answer.ensures (accepted e))))
+    with_told a.t1 a.format a.timestamp a.block.now a.a.now a.b.now _
+    (concludes a.t1 a.format a.timestamp a.block.now a.a.now a.b.now (takes e) (eight (b e)) (bytes (b e)) _ c.copy_unstaged.ensures _ _ _ _
+    (at_end _ _ _ _ _ _ _ _ _ _ _ _ c.loop-i-2.invariant c.loop-i-2-test.false) _ (clips_end _ _ _ _ _ _ _ _ _ _ _ _ c.loop-i-2.invariant c.loop-i-2-test.false) c.loop-i-2.chain c.loop-i-2.invariant.chain _ _ _ c.count_up-blocks.ensures c.count_empty-empty_blocks.ensures c.answered-answer.ensures (accepted e))))

@@ -17,7 +17,7 @@ walked_spec = tie.close (tie.spec
     decreases-loop
     (λ c. c.requires)
     (λ c. search rules) (λ c. search rules)
-    (λ c κs. asks_fits _ _ _ _ _ _ _ _ c.before.before.loop-i.invariant c.before.loop-i-test.true)
+    (λ c κs. asks_fits _ _ _ _ _ _ _ _ c.loop-i.invariant c.loop-i-test.true)
     (λ c. search rules) (λ c. search rules)
-    (λ c. asks_next _ _ _ _ _ _ _ _ c.before.before.before.loop-i.invariant c.before.before.loop-i-test.true _ c.asked-walk.ensures)
-    (λ c. let v = c.before.loop-i.invariant in record { is = asks_end _ _ _ _ _ _ _ _ v c.loop-i-test.false; largest = v.within.largest; short = v.within.short }))
+    (λ c. asks_next _ _ _ _ _ _ _ _ c.loop-i.invariant c.loop-i-test.true _ c.asked-walk.ensures)
+    (λ c. let v = c.loop-i.invariant in record { is = asks_end _ _ _ _ _ _ _ _ v c.loop-i-test.false; largest = v.within.largest; short = v.within.short }))

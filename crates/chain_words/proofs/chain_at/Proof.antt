@@ -17,9 +17,9 @@ returns c =
     let k = c.before.before in
     let f = k.before in
     let s = f.before in
-    let w = s.before.before.args.w.now in (
-      rw (s.stages_of-stages.ensures, f.format_of-format.ensures, c.before.counter_at.ensures, c.counter_at-2.ensures),
-      subst (λ (l : List Stage). All Small l) (sym s.stages_of-stages.ensures) (small_stages w k.shared_slice_known-2-1.given 0 8),
+    let w = c.args.w.now in (
+      rw (c.stages_of-stages.ensures, c.format_of-format.ensures, c.counter_at.ensures, c.counter_at-2.ensures),
+      subst (λ (l : List Stage). All Small l) (sym c.stages_of-stages.ensures) (small_stages w c.shared_slice_known-2-1.given 0 8),
     )
 
 pub chain_at_spec : {M : Type 1} → statement M

@@ -9,16 +9,16 @@ use Rattle.chain_words.proofs.chain_of.Tie as tie
 
 returns : tie.Need-returns-then-stand
 unfolding chain_of_words
-returns c = (rw (sym c.before.before.stand.ensures ∙ c.before.if-stand.true) c.chain_at.ensures.0, c.chain_at.ensures.1)
+returns c = (rw (sym c.stand.ensures ∙ c.if-stand.true) c.chain_at.ensures.0, c.chain_at.ensures.1)
 
 returns-2 : tie.Need-returns
 unfolding chain_of_words
-returns-2 c = rw (sym c.before.before.stand.ensures ∙ c.before.if-stand.false, c.no_chain.ensures) (refl, no_chain_small)
+returns-2 c = rw (sym c.stand.ensures ∙ c.if-stand.false, c.no_chain.ensures) (refl, no_chain_small)
 
 pub chain_of_spec : {M : Type 1} → statement M
 chain_of_spec = tie.close (tie.spec
     (λ c κs. search rules)
-    (λ c κs. stands_long _ (sym c.before.stand.ensures ∙ c.if-stand.true))
+    (λ c κs. stands_long _ (sym c.stand.ensures ∙ c.if-stand.true))
     returns
     (λ c κs. search rules)
     returns-2)

@@ -15,10 +15,10 @@ use Rattle.chain_words.proofs.kind_at.Tie as tie
 returns : tie.Need-returns
 returns c =
     let s = c.before.before in
-    let w = s.before.args.w.now in
-    let i = s.before.args.i in
+    let w = c.args.w.now in
+    let i = c.args.i in
     let e : c.kind_of.result ≡ (stage_at w i).kind = c.kind_of.ensures ∙ ap (λ (x : List ℕ). kind_of x (word x 0)) (part_to_end w (8 + 18 * i)) in
-    (e, subst SmallKind (sym e) (small_kind (place_of w i) (place_small w i s.shared_slice_known-1.given) (word (place_of w i) 0)))
+    (e, subst SmallKind (sym e) (small_kind (place_of w i) (place_small w i c.shared_slice_known-1.given) (word (place_of w i) 0)))
 
 pub kind_at_spec : {M : Type 1} → statement M
 kind_at_spec = tie.close (tie.spec

@@ -17,22 +17,22 @@ abbrev decreases-loop : tie.decreases-loop-i
 decreases-loop w count i₀ i = count - i
 
 loop-holds : tie.Need-loop-i-init invariant-loop decreases-loop
-loop-holds c = let n = c.before.args.count in let e : n - 0 ≡ n = omega arith in (omega arith, rw e)
+loop-holds c = let n = c.args.count in let e : n - 0 ≡ n = omega arith in (omega arith, rw e)
 
 returns : tie.Need-returns-then-not-kind_known invariant-loop decreases-loop
 returns c =
     let l = c.before.before.before.before in
-    let a = l.before.before.args in
-    sym (l.loop-i.invariant.1 ∙ kinds_next a.w.now l.loop-i.i a.count false (omega arith) (sym c.before.kind_known.ensures ∙ not-true _ c.if-not-kind_known.true))
+    let a = c.args in
+    sym (c.loop-i.invariant.1 ∙ kinds_next a.w.now c.loop-i.i a.count false (omega arith) (sym c.kind_known.ensures ∙ not-true _ c.if-not-kind_known.true))
 
 loop-again : tie.Need-loop-i-preserved invariant-loop decreases-loop
 loop-again c =
     let l = c.before.before.before.before in
-    let a = l.before.before.args in
-    (omega arith, l.loop-i.invariant.1 ∙ kinds_next a.w.now l.loop-i.i a.count true (omega arith) (sym c.before.kind_known.ensures ∙ not-false _ c.if-not-kind_known.false))
+    let a = c.args in
+    (omega arith, c.loop-i.invariant.1 ∙ kinds_next a.w.now c.loop-i.i a.count true (omega arith) (sym c.kind_known.ensures ∙ not-false _ c.if-not-kind_known.false))
 
 returns-2 : tie.Need-returns invariant-loop decreases-loop
-returns-2 c = let l = c.before in let a = l.before.before.args in sym (l.loop-i.invariant.1 ∙ kinds_end a.w.now l.loop-i.i a.count (omega arith))
+returns-2 c = let l = c.before in let a = c.args in sym (c.loop-i.invariant.1 ∙ kinds_end a.w.now c.loop-i.i a.count (omega arith))
 
 pub kinds_known_spec : {M : Type 1} → statement M
 kinds_known_spec = tie.close (tie.spec invariant-loop decreases-loop

@@ -14,10 +14,10 @@ use Rattle.chain_words.proofs.memory_at.Tie as tie
 returns : tie.Need-returns
 returns c =
     let s = c.before.before in
-    let w = s.before.args.w.now in
-    let i = s.before.args.i in
+    let w = c.args.w.now in
+    let i = c.args.i in
     let e : c.memory_of.result ≡ (stage_at w i).memory = c.memory_of.ensures ∙ ap memory_of (part_to_end w (8 + 18 * i)) in
-    (e, subst (λ (m : SoundMemory). m.resampler.phase < 4294967296) (sym e) (small_stage (place_of w i) (place_small w i s.shared_slice_known-1.given)).phase)
+    (e, subst (λ (m : SoundMemory). m.resampler.phase < 4294967296) (sym e) (small_stage (place_of w i) (place_small w i c.shared_slice_known-1.given)).phase)
 
 pub memory_at_spec : {M : Type 1} → statement M
 memory_at_spec = tie.close (tie.spec

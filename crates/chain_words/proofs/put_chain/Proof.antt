@@ -30,25 +30,25 @@ loop-holds : tie.Need-loop-i-init invariant-loop decreases-loop
 loop-holds c = (omega arith, search (unmapped, rules), rw no_stages, tt)
 
 -- the words keep their number
-headed : (l : tie.At-loop-i invariant-loop decreases-loop) → length l.before.before.before.put_head.new.0 ≡ length l.before.before.before.before.before.before.before.args.w.now
-headed l = ap length l.before.before.before.put_head.ensures ∙ length-sets _ 0 (head_words _)
+headed : (l : tie.At-loop-i invariant-loop decreases-loop) → length l.put_head.new.w ≡ length l.args.w.now
+headed l = ap length l.put_head.ensures ∙ length-sets _ 0 (head_words _)
 
-long : (l : tie.At-loop-i invariant-loop decreases-loop) → length l.loop-i.w ≡ length l.before.before.before.before.before.before.before.args.w.now
-long l = ap length l.loop-i.invariant.2 ∙ length-sets l.before.before.before.put_head.new.0 8 (stages_words (take l.loop-i.i l.before.before.before.before.before.before.before.args.chain.stages-1)) ∙ headed l
+long : (l : tie.At-loop-i invariant-loop decreases-loop) → length l.loop-i.w ≡ length l.args.w.now
+long l = ap length l.loop-i.invariant.2 ∙ length-sets l.put_head.new.w 8 (stages_words (take l.loop-i.i l.args.chain.stages)) ∙ headed l
 
 put-stage-at-requires : tie.Need-put_stage_at-requires invariant-loop decreases-loop
 put-stage-at-requires c κs =
     let l = c.before.before.before in
-    (search rules, omega (arith, long l, l.before.before.before.before.before.before.before.requires))
+    (search rules, omega (arith, long l, c.requires))
 
 loop-again : tie.Need-loop-i-preserved invariant-loop decreases-loop
 loop-again c =
     let l = c.before.before.before.before.before.before in
-    let st = l.before.before.before.before.before.before.before.args.chain.stages-1 in
-    let w₀ = l.before.before.before.put_head.new.0 in
-    let i = l.loop-i.i in
-    let v = l.loop-i.invariant in
-    let p = c.before.before.put_stage_at.ensures in
+    let st = c.args.chain.stages in
+    let w₀ = c.put_head.new.w in
+    let i = c.loop-i.i in
+    let v = c.loop-i.invariant in
+    let p = c.put_stage_at.ensures in
     let s = words_of_stage (get_or st i no_stage) in
     let b = stages_words (take i st) in
     let h : i < length st = omega arith in
@@ -66,16 +66,16 @@ returns : tie.Need-returns invariant-loop decreases-loop
 unfolding words_of
 returns c =
     let l = c.before in
-    let a = l.before.before.before.before.before.before.before.args in
-    let st = a.chain.stages-1 in
-    let w = a.w-1.now in
-    let w₀ = l.before.before.before.put_head.new.0 in
-    let v = l.loop-i.invariant in
-    let t : take l.loop-i.i st ≡ st = take_all l.loop-i.i st (omega arith) in
+    let a = c.args in
+    let st = a.chain.stages in
+    let w = a.w.now in
+    let w₀ = c.put_head.new.w in
+    let v = c.loop-i.invariant in
+    let t : take c.loop-i.i st ≡ st = take_all c.loop-i.i st (omega arith) in
     let e : 0 + length (head_words a.chain) ≡ 8 = omega (arith, length_head a.chain) in
     let n : length (head_words a.chain ++ stages_words st) ≤ length w =
-    omega (arith, length-append (head_words a.chain) (stages_words st), length_head a.chain, length_stages st, l.before.before.before.before.before.before.before.requires) in (
-      v.2 ∙ ap (λ (x : List Stage). sets w₀ 8 (stages_words x)) t ∙ ap (λ (x : List ℕ). sets x 8 (stages_words st)) l.before.before.before.put_head.ensures
+    omega (arith, length-append (head_words a.chain) (stages_words st), length_head a.chain, length_stages st, c.requires) in (
+      v.2 ∙ ap (λ (x : List Stage). sets w₀ 8 (stages_words x)) t ∙ ap (λ (x : List ℕ). sets x 8 (stages_words st)) c.put_head.ensures
           ∙ sym (sets_append (head_words a.chain) (stages_words st) w 0 ∙ ap (λ (n : ℕ). sets (sets w 0 (head_words a.chain)) n (stages_words st)) e)
           ∙ whole_run (head_words a.chain ++ stages_words st) w n,
       subst (λ (x : List Stage). All HeldStage x) t v.3,

@@ -8,7 +8,7 @@ returns : tie.Need-returns
 returns c =
     let c2 = c.before.before in
     let c1 = c2.before.before.before.before in
-    c2.put_counter-2.ensures ∙ rw c1.put_counter.ensures
+    c.put_counter-2.ensures ∙ rw c.put_counter.ensures
 
 pub put_counters_spec : {M : Type 1} → statement M
 put_counters_spec = tie.close (tie.spec

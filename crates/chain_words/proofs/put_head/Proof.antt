@@ -10,12 +10,12 @@ use Rattle.chain_words.proofs.put_head.Tie as tie
 slice-write-w-4 : tie.Need-bounds-w-7
 slice-write-w-4 c =
     let a = c.before.before.before.before.before.before.before.before in
-    let n : length c.before.before.put_counters.new.0 ≡ length a.args.w.now = ap length c.before.before.put_counters.ensures ∙ simp length-set in
-    omega (arith, n, a.requires)
+    let n : length c.put_counters.new.w ≡ length c.args.w.now = ap length c.put_counters.ensures ∙ simp length-set in
+    omega (arith, n, c.requires)
 
 returns : tie.Need-returns
 unfolding head_words
-returns c = rw c.before.before.put_counters.ensures
+returns c = rw c.put_counters.ensures
 
 pub put_head_spec : {M : Type 1} → statement M
 put_head_spec = tie.close (tie.spec
@@ -25,5 +25,5 @@ put_head_spec = tie.close (tie.spec
     (λ c. simp length-set (omega arith))
     (λ c κs. search rules)
     slice-write-w-4
-    (λ c. simp length-set (ap length c.before.before.put_counters.ensures ∙ simp length-set))
+    (λ c. simp length-set (ap length c.put_counters.ensures ∙ simp length-set))
     returns)

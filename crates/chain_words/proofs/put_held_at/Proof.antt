@@ -12,24 +12,24 @@ unfolding held_at held_words
 returns-4 c =
     let p = c.before.before in
     let t = p.before.before in
-    let a = t.before.before.before.before.args in
-    rw t.before.enum_told-in-Resample-1.given.1 (part_run (state_words a.m.resampler) a.w-1.now _ (8 + 18 * a.i) 15 p.put_state.ensures.0, p.put_state.ensures.1)
+    let a = c.args in
+    rw c.in-Resample.is (part_run (state_words a.m.resampler) a.w.now _ (8 + 18 * a.i) 15 c.put_state.ensures.0, c.put_state.ensures.1)
 
 returns-5 : tie.Need-returns-in-DcBlock
 unfolding held_at held_words
 returns-5 c =
     let p = c.before.before in
     let t = p.before.before in
-    let a = t.before.before.before.before.args in
-    rw t.before.enum_told-in-DcBlock-1.given.1 (part_run (filter_words a.m.filter-1) a.w-1.now _ (8 + 18 * a.i) 7 p.put_filter.ensures.0, p.put_filter.ensures.1)
+    let a = c.args in
+    rw c.in-DcBlock.is (part_run (filter_words a.m.filter) a.w.now _ (8 + 18 * a.i) 7 c.put_filter.ensures.0, c.put_filter.ensures.1)
 
 returns-6 : tie.Need-returns-in-Biquad
 unfolding held_at held_words
 returns-6 c =
     let p = c.before.before in
     let t = p.before.before in
-    let a = t.before.before.before.before.args in
-    rw t.before.enum_told-in-Biquad-1.given.1 (part_run (filter_words a.m.filter-1) a.w-1.now _ (8 + 18 * a.i) 7 p.put_filter-in-Biquad.ensures.0, p.put_filter-in-Biquad.ensures.1)
+    let a = c.args in
+    rw c.in-Biquad.is (part_run (filter_words a.m.filter) a.w.now _ (8 + 18 * a.i) 7 c.put_filter-in-Biquad.ensures.0, c.put_filter-in-Biquad.ensures.1)
 
 pub put_held_at_spec : {M : Type 1} → statement M
 unfolding held_at held_words
@@ -38,9 +38,9 @@ put_held_at_spec = tie.close (tie.spec
     (λ c. search rules) (λ c. search rules) (λ c. search rules) (λ c κs. search rules) (λ c. search rules) (λ c. search rules) (λ c. search rules)
     (λ c. search rules) (λ c. search rules) (λ c κs. search rules) (λ c. search rules) (λ c. search rules) (λ c. search rules) (λ c. search rules)
     (λ c. search rules) (λ c κs. search rules)
-    (λ c. rw c.enum_told-1.given.1 (refl, tt))
-    (λ c. rw c.enum_told-in-MonoToStereo-1.given.1 (refl, tt))
-    (λ c. rw c.enum_told-in-StereoToMono-1.given.1 (refl, tt))
+    (λ c. rw c.in-Gain.is (refl, tt))
+    (λ c. rw c.in-MonoToStereo.is (refl, tt))
+    (λ c. rw c.in-StereoToMono.is (refl, tt))
     (λ c. search rules)
     returns-4
     (λ c. search rules)

@@ -28,23 +28,23 @@ decreases-loop w₀ count stages i₀ w i = count - i
 loop-holds : tie.Need-loop-i-init invariant-loop decreases-loop
 loop-holds c = (omega arith, search (unmapped, rules), sym (kept_none _ 0), tt)
 
-long : (l : tie.At-loop-i invariant-loop decreases-loop) → length l.loop-i.w ≡ length l.before.before.args.w.now
-long l = ap length l.loop-i.invariant.2 ∙ length_kept (take l.loop-i.i l.before.before.args.stages) l.before.before.args.w.now 0
+long : (l : tie.At-loop-i invariant-loop decreases-loop) → length l.loop-i.w ≡ length l.args.w.now
+long l = ap length l.loop-i.invariant.2 ∙ length_kept (take l.loop-i.i l.args.stages) l.args.w.now 0
 
 put-memory-at-requires : tie.Need-put_memory_at-requires invariant-loop decreases-loop
-put-memory-at-requires c κs = let l = c.before.before.before.before in (omega arith, omega (arith, long l, l.before.before.requires.1))
+put-memory-at-requires c κs = let l = c.before.before.before.before in (omega arith, omega (arith, long l, c.requires.1))
 
 loop-again : tie.Need-loop-i-preserved invariant-loop decreases-loop
 loop-again c =
     let l = c.before.before.before.before.before.before.before in
-    let st = l.before.before.args.stages in
-    let w₀ = l.before.before.args.w.now in
-    let i = l.loop-i.i in
-    let v = l.loop-i.invariant in
-    let p = c.before.before.put_memory_at.ensures in
+    let st = c.args.stages in
+    let w₀ = c.args.w.now in
+    let i = c.loop-i.i in
+    let v = c.loop-i.invariant in
+    let p = c.put_memory_at.ensures in
     let b = take i st in
-    let m = memory_words (get_or st i no_stage).memory-1 in
-    let h : i < length st = omega (arith, l.before.before.requires.0) in
+    let m = memory_words (get_or st i no_stage).memory in
+    let h : i < length st = omega (arith, c.requires.0) in
     let e : i ≡ 0 + length b = omega (arith, length-take-le i st (omega arith)) in (
       omega arith,
       v.1,
@@ -56,14 +56,14 @@ loop-again c =
 returns : tie.Need-returns invariant-loop decreases-loop
 returns c =
     let l = c.before in
-    let e : l.loop-i.i ≡ l.before.before.args.count = omega arith in
-    (rw e at l.loop-i.invariant.2, rw e at l.loop-i.invariant.3)
+    let e : c.loop-i.i ≡ c.args.count = omega arith in
+    (rw e at c.loop-i.invariant.2, rw e at c.loop-i.invariant.3)
 
 pub put_memories_spec : {M : Type 1} → statement M
 put_memories_spec = tie.close (tie.spec invariant-loop decreases-loop
     loop-holds
     (λ c. search rules)
-    (λ c. omega (arith, c.before.before.before.requires.0))
+    (λ c. omega (arith, c.requires.0))
     put-memory-at-requires
     (λ c. search rules) (λ c. search rules)
     loop-again

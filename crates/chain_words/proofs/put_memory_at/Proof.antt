@@ -8,9 +8,9 @@ use Rattle.chain_words.proofs.put_memory_at.Tie as tie
 
 returns : tie.Need-returns
 returns c =
-    let a = c.before.before.before.before.before.args in
+    let a = c.args in
     let p = c.before.before in
-    (part_run (memory_words a.m) a.w-1.now _ (8 + 18 * a.i) 7 p.put_memory.ensures.0, p.put_memory.ensures.1, p.put_memory.ensures.2)
+    (part_run (memory_words a.m) a.w.now _ (8 + 18 * a.i) 7 c.put_memory.ensures.0, c.put_memory.ensures.1, c.put_memory.ensures.2)
 
 pub put_memory_at_spec : {M : Type 1} → statement M
 put_memory_at_spec = tie.close (tie.spec

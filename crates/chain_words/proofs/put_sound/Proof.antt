@@ -10,7 +10,7 @@ unfolding with_sound
 returns c =
     let b = c.before.before in
     let a = b.before.before.before.before in
-    (b.put_counters.ensures ∙ rw a.put_memories.ensures.0, a.put_memories.ensures.1)
+    (c.put_counters.ensures ∙ rw c.put_memories.ensures.0, c.put_memories.ensures.1)
 
 pub put_sound_spec : {M : Type 1} → statement M
 put_sound_spec = tie.close (tie.spec

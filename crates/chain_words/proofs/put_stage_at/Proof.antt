@@ -11,10 +11,10 @@ use Rattle.chain_words.proofs.put_stage_at.Tie as tie
 
 returns : tie.Need-returns
 returns c =
-    let a = c.before.before.before.before.before.args in
+    let a = c.args in
     let p = c.before.before in
     let e : 8 + 18 * a.i + 0 ≡ 8 + 18 * a.i = omega arith in
-    (part_run (words_of_stage a.s) a.w-1.now _ (8 + 18 * a.i) 0 p.put_stage.ensures.0 ∙ ap (λ (n : ℕ). sets a.w-1.now n (words_of_stage a.s)) e, p.put_stage.ensures.1)
+    (part_run (words_of_stage a.s) a.w.now _ (8 + 18 * a.i) 0 c.put_stage.ensures.0 ∙ ap (λ (n : ℕ). sets a.w.now n (words_of_stage a.s)) e, c.put_stage.ensures.1)
 
 pub put_stage_at_spec : {M : Type 1} → statement M
 put_stage_at_spec = tie.close (tie.spec

@@ -8,7 +8,7 @@ use Rattle.chain_words.proofs.stage_at.Statement.{statement}
 use Rattle.chain_words.proofs.stage_at.Tie as tie
 
 returns : tie.Need-returns
-returns c = c.stage_of.ensures ∙ ap stage_of (part_to_end c.before.before.before.args.w.now (8 + 18 * c.before.before.before.args.i))
+returns c = c.stage_of.ensures ∙ ap stage_of (part_to_end c.args.w.now (8 + 18 * c.args.i))
 
 pub stage_at_spec : {M : Type 1} → statement M
 stage_at_spec = tie.close (tie.spec

@@ -14,7 +14,7 @@ returns c =
     let c3 = c4.before in
     let c2 = c3.before in
     let c1 = c2.before in
-    rw (c1.stage_at.ensures, c2.stage_at-2.ensures, c3.stage_at-3.ensures, c4.stage_at-4.ensures, c5.stage_at-5.ensures, c6.stage_at-6.ensures, c7.stage_at-7.ensures, c.stage_at-8.ensures)
+    rw (c.stage_at.ensures, c.stage_at-2.ensures, c.stage_at-3.ensures, c.stage_at-4.ensures, c.stage_at-5.ensures, c.stage_at-6.ensures, c.stage_at-7.ensures, c.stage_at-8.ensures)
 
 pub stages_of_spec : {M : Type 1} → statement M
 stages_of_spec = tie.close (tie.spec

@@ -12,7 +12,7 @@ returns c =
     let right = c.before in
     let left = right.before in
     answered w16 c.mean_i16.type_inv c.mean_i16.ensures
-    ∙ ap₂ mean (answered w16 left.get_i16.type_inv left.get_i16.ensures) (answered w16 right.get_i16-2.type_inv right.get_i16-2.ensures)
+    ∙ ap₂ mean (answered w16 c.get_i16.type_inv c.get_i16.ensures) (answered w16 c.get_i16-2.type_inv c.get_i16-2.ensures)
 
 pub mean_at_spec : {M : Type 1} → statement M
 mean_at_spec = tie.close (tie.spec (λ c κs. search rules) (λ c. search rules) (λ c κs. search rules) (λ c κs. search rules) returns)

@@ -47,18 +47,18 @@ module _ (s : List ℕ) where
 loop-again : tie.Need-loop-k-preserved invariant-loop decreases-loop
 loop-again c =
     let l = c.before.before in
-    let s = l.args in (
+    let s = c.args in (
       omega arith,
-      simp length-set l.loop-k.invariant.1,
-      mean_more s.s.now l.loop-k.a l.loop-k.k _ (omega arith) (omega arith) (answered w16 c.mean_at.type_inv c.mean_at.ensures) l.loop-k.invariant.2,
+      simp length-set c.loop-k.invariant.1,
+      mean_more s.s.now c.loop-k.a c.loop-k.k _ (omega arith) (omega arith) (answered w16 c.mean_at.type_inv c.mean_at.ensures) c.loop-k.invariant.2,
     )
 
 returns : tie.Need-returns invariant-loop decreases-loop
 returns c =
     let l = c.before in
-    let e : l.loop-k.k ≡ 16 = omega arith in
-    let s = l.args.s.now in
-    sym (ap encode (take_all 16 l.loop-k.a (omega arith))) ∙ (rw e at l.loop-k.invariant.2) ∙ ap mono_bytes (take_all 64 s (omega arith))
+    let e : c.loop-k.k ≡ 16 = omega arith in
+    let s = c.args.s.now in
+    sym (ap encode (take_all 16 c.loop-k.a (omega arith))) ∙ (rw e at c.loop-k.invariant.2) ∙ ap mono_bytes (take_all 64 s (omega arith))
 
 pub means_spec : {M : Type 1} → statement M
 means_spec = tie.close (tie.spec invariant-loop decreases-loop

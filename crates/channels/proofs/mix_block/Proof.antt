@@ -27,14 +27,14 @@ loop-again c =
     let get = sum.before.before in
     let loop = get.before.before.before in
     let s = loop.before.before.before.before in
-    let a = s.args.a.now in
-    let b = s.args.b.now in
-    let i = loop.loop-i.i in
+    let a = c.args.a.now in
+    let b = c.args.b.now in
+    let i = c.loop-i.i in
     let y =
-    answered w16 sum.sum_i16.type_inv sum.sum_i16.ensures
-    ∙ ap₂ mixed (answered w16 get.get_i16.type_inv get.get_i16.ensures) (answered w16 sum.get_i16-in-loop-i.type_inv sum.get_i16-in-loop-i.ensures) in
-    let rest = writing_as loop.loop-i.invariant.2 (ap₂ mixed_bytes (next_pair a i (omega arith)) (next_pair b i (omega (arith, s.requires.1)))) in
-    (omega arith, omega arith, writing_put rest put.put_i16.ensures y (omega arith) (omega (arith, s.requires.2)))
+    answered w16 c.sum_i16.type_inv c.sum_i16.ensures
+    ∙ ap₂ mixed (answered w16 c.get_i16.type_inv c.get_i16.ensures) (answered w16 c.get_i16-in-loop-i.type_inv c.get_i16-in-loop-i.ensures) in
+    let rest = writing_as c.loop-i.invariant.2 (ap₂ mixed_bytes (next_pair a i (omega arith)) (next_pair b i (omega (arith, c.requires.1)))) in
+    (omega arith, omega arith, writing_put rest c.put_i16.ensures y (omega arith) (omega (arith, c.requires.2)))
 
 returns : tie.Need-returns invariant-loop decreases-loop
 unfolding mixed_bytes
@@ -45,7 +45,7 @@ returns c =
 
 pub mix_block_spec : {M : Type 1} → statement M
 mix_block_spec = tie.close (tie.spec invariant-loop decreases-loop
-    (λ c. let s = c.before.before.before in (omega arith, refl, writing_start _ _ _ (sym (length_mixed _ _ s.requires.1 s.requires.0))))
+    (λ c. let s = c.before.before.before in (omega arith, refl, writing_start _ _ _ (sym (length_mixed _ _ c.requires.1 c.requires.0))))
     (λ c κs. omega arith) (λ c κs. omega arith) (λ c κs. tt) (λ c κs. omega arith) (λ c. omega arith) (λ c. omega arith)
     loop-again
     (λ c. c.loop-i.invariant.2.len)

@@ -18,15 +18,15 @@ abbrev decreases-loop : tie.decreases-loop-at
 decreases-loop a b n at₀ c₀ at c = n - at
 
 ends : (c : tie.After-least invariant-loop decreases-loop) → Span (length c.args.a.now) c.loop-at.at c.least.result
-ends c = let loop = c.before.before in span c.least.ensures (omega arith) (omega arith) loop.requires.0 loop.loop-at.invariant.even loop.loop-at.invariant.inside
+ends c = let loop = c.before.before in span c.least.ensures (omega arith) (omega arith) c.requires.0 c.loop-at.invariant.even c.loop-at.invariant.inside
 
 span-clipped-requires : tie.Need-span_clipped-requires invariant-loop decreases-loop
 span-clipped-requires c κs =
     let least = c.before.before in
     let e = ends least in
     let s = least.before.before.before.before.before in
-    let la = part_length s.args.a.now _ _ e.after e.inside in
-    let lb = part_length s.args.b.now _ _ e.after (omega (arith, e.inside, s.requires.1)) in
+    let la = part_length c.args.a.now _ _ e.after e.inside in
+    let lb = part_length c.args.b.now _ _ e.after (omega (arith, e.inside, c.requires.1)) in
     (rw la e.whole, la ∙ sym lb, rw la (omega (arith, e.short)))
 
 loop-again : tie.Need-loop-at-preserved invariant-loop decreases-loop
@@ -35,13 +35,13 @@ loop-again c =
     let least = c.before.before.before in
     let loop = least.before.before in
     let s = loop.before.before.before in
-    let a = s.args.a.now in
-    let b = s.args.b.now in
-    let at = loop.loop-at.at in
-    let to = at + least.least.result in
+    let a = c.args.a.now in
+    let b = c.args.b.now in
+    let at = c.loop-at.at in
+    let to = at + c.least.result in
     let e = ends least in
-    counting-part loop.loop-at.invariant (sums (decode (take (to - at) (drop at a))) (decode (take (to - at) (drop at b)))) e.inside e.even
-    (sums_part a b at to s.requires.1 e.after e.inside e.whole) c.span_clipped.ensures
+    counting-part c.loop-at.invariant (sums (decode (take (to - at) (drop at a))) (decode (take (to - at) (drop at b)))) e.inside e.even
+    (sums_part a b at to c.requires.1 e.after e.inside e.whole) c.span_clipped.ensures
 
 returns : tie.Need-returns invariant-loop decreases-loop
 unfolding mix_clipped

@@ -25,10 +25,10 @@ loop-again c =
     let put = c.before.before in
     let read = put.before in
     let l = read.before.before.before in
-    let input = l.args.input.now in
-    let i = l.loop-i.i in
-    let rest = writing_as l.loop-i.invariant.3 (ap mono_bytes (next_four input i (omega arith)) ∙ mono_next _ _ (drop (i + 4) input) _ _) in
-    (omega arith, omega arith, omega arith, writing_put rest put.put_i16.ensures (answered w16 read.mean_at.type_inv read.mean_at.ensures) (omega arith) (omega arith))
+    let input = c.args.input.now in
+    let i = c.loop-i.i in
+    let rest = writing_as c.loop-i.invariant.3 (ap mono_bytes (next_four input i (omega arith)) ∙ mono_next _ _ (drop (i + 4) input) _ _) in
+    (omega arith, omega arith, omega arith, writing_put rest c.put_i16.ensures (answered w16 c.mean_at.type_inv c.mean_at.ensures) (omega arith) (omega arith))
 
 returns : tie.Need-returns invariant-loop decreases-loop
 returns c =

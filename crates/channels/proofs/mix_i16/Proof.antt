@@ -30,7 +30,7 @@ promised a b out v e f g =
 
 -- past the first question the verdict is that on the room
 room_is : (c : tie.After-require_room) → let s = c.args in mix_verdict s.a.now s.b.now s.out.now ≡ c.require_room.result
-room_is c = let e = c.before.before in mix_asks_room _ _ _ e.if-n-b.false e.if-n-ne0.false ∙ sym c.require_room.ensures
+room_is c = let e = c.before.before in mix_asks_room _ _ _ c.if-n-b.false c.if-n-ne0.false ∙ sym c.require_room.ensures
 
 room-there : (c : tie.In-Accepted) → let s = c.args in length s.a.now ≤ length s.out.now
 room-there c = room_enough _ _ (sym c.require_room.ensures ∙ c.in-Accepted.is)
@@ -38,15 +38,15 @@ room-there c = room_enough _ _ (sym c.require_room.ensures ∙ c.in-Accepted.is)
 mix-block-requires : tie.Need-mix_block-requires
 mix-block-requires c κs =
     let told = c.before.before in
-    let e = told.before.before.before.before in
-    (e.if-n-ne0.false, e.if-n-b.false, room-there told)
+    let e = told.before.before.before in
+    (c.if-n-ne0.false, c.if-n-b.false, room-there told)
 
 returns-4 : tie.Need-returns-in-Accepted
 returns-4 c =
     let call = c.before.before in
     let counted = call.before.before in
     let told = counted.before in
-    promised _ _ _ Accepted (room_is told.before.before ∙ told.in-Accepted.is) (ap answer.Mixed counted.mix_clipped-count.ensures) call.mix_block.ensures
+    promised _ _ _ Accepted (room_is told.before ∙ c.in-Accepted.is) (ap answer.Mixed c.mix_clipped-count.ensures) c.mix_block.ensures
 
 pub mix_i16_spec : {M : Type 1} → statement M
 mix_i16_spec = tie.close (tie.spec
@@ -55,6 +55,6 @@ mix_i16_spec = tie.close (tie.spec
     (λ c κs. search rules) (λ c. search rules) (λ c. search rules) (λ c κs. search rules)
     mix-block-requires
     (λ c. search rules)
-    (λ c. promised _ _ _ (Refused _) (room_is c.before.before.before ∙ c.in-Refused.is) refl refl)
+    (λ c. promised _ _ _ (Refused _) (room_is c.before ∙ c.in-Refused.is) refl refl)
     (λ c. search rules)
     returns-4)

@@ -26,12 +26,12 @@ loop-again c =
     let put = put2.before.before.before.before in
     let get = put.before.before in
     let loop = get.before.before in
-    let input = loop.args.input.now in
-    let x = answered w16 get.get_i16-x.type_inv get.get_i16-x.ensures in
-    let e : loop.loop-i.j + 2 + 2 ≡ loop.loop-i.j + 4 = omega arith in
-    let rest = writing_as loop.loop-i.invariant.3 (ap stereo_bytes (next_pair input loop.loop-i.i (omega arith)) ∙ stereo_next _ _ (drop (loop.loop-i.i + 2) input)) in
-    let one = writing_put rest put.put_i16.ensures x (omega arith) (omega arith) in
-    (omega arith, omega arith, omega arith, rw e at (writing_put one put2.put_i16-in-loop-i.ensures x (omega arith) (omega arith)))
+    let input = c.args.input.now in
+    let x = answered w16 c.get_i16-x.type_inv c.get_i16-x.ensures in
+    let e : c.loop-i.j + 2 + 2 ≡ c.loop-i.j + 4 = omega arith in
+    let rest = writing_as c.loop-i.invariant.3 (ap stereo_bytes (next_pair input c.loop-i.i (omega arith)) ∙ stereo_next _ _ (drop (c.loop-i.i + 2) input)) in
+    let one = writing_put rest c.put_i16.ensures x (omega arith) (omega arith) in
+    (omega arith, omega arith, omega arith, rw e at (writing_put one c.put_i16-in-loop-i.ensures x (omega arith) (omega arith)))
 
 returns : tie.Need-returns invariant-loop decreases-loop
 returns c =

@@ -35,12 +35,12 @@ loop-again c =
     let put = c.before.before in
     let l = put.before.before.before.before in
     let s = l.before.before in
-    let k = l.loop-k.k in
+    let k = c.loop-k.k in
     let n = sixteen s in
     let j : 2 * k + 2 ≡ 2 * (k + 1) = omega arith in
-    let next = writing_as l.loop-k.invariant.1 (next_sample s.args.a k (omega arith)) in (
+    let next = writing_as c.loop-k.invariant.1 (next_sample c.args.a k (omega arith)) in (
       omega arith,
-      rw j at (writing_put next put.put_i16.ensures (answered w16 put.put_i16-arg-in-loop-k-1.given refl) (omega arith) (omega arith)),
+      rw j at (writing_put next c.put_i16.ensures (answered w16 c.put_i16-arg-in-loop-k-1.given refl) (omega arith) (omega arith)),
     )
 
 pub put_means_spec : {M : Type 1} → statement M
@@ -54,4 +54,4 @@ put_means_spec = tie.close (tie.spec invariant-loop decreases-loop
     (λ c.
     let l = c.before in
     let n = sixteen l.before.before in
-    writing_done l.loop-k.invariant.1 (ap encode (drop_of_length-le l.args.a {i = l.loop-k.k} (omega arith))) (omega arith)))
+    writing_done c.loop-k.invariant.1 (ap encode (drop_of_length-le c.args.a {i = c.loop-k.k} (omega arith))) (omega arith)))

@@ -28,10 +28,10 @@ loop-again c =
     let get = get2.before in
     let loop = get.before.before in
     let s = loop.before.before.before in
-    let even = loop.loop-i.invariant.even in
-    counting-next loop.loop-i.invariant s.requires.0 (omega arith)
-    (sums_next s.args.a.now s.args.b.now loop.loop-i.i (omega arith) s.requires.1)
-    (c.one.ensures ∙ ap one (asked.sum_outside.ensures ∙ ap₂ (λ x y. outside16 (x +ℤ y)) (answered w16 get.get_i16.type_inv get.get_i16.ensures) (answered w16 get2.get_i16-in-loop-i.type_inv get2.get_i16-in-loop-i.ensures)))
+    let even = c.loop-i.invariant.even in
+    counting-next c.loop-i.invariant c.requires.0 (omega arith)
+    (sums_next c.args.a.now c.args.b.now c.loop-i.i (omega arith) c.requires.1)
+    (c.one.ensures ∙ ap one (c.sum_outside.ensures ∙ ap₂ (λ x y. outside16 (x +ℤ y)) (answered w16 c.get_i16.type_inv c.get_i16.ensures) (answered w16 c.get_i16-in-loop-i.type_inv c.get_i16-in-loop-i.ensures)))
 
 returns : tie.Need-returns invariant-loop decreases-loop
 unfolding mix_clipped

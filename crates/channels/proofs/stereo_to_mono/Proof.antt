@@ -42,17 +42,17 @@ loop-again c =
     let put = c.before.before in
     let read = put.before.before in
     let l = read.before.before.before in
-    let s = l.args in
+    let s = c.args in
     let input = s.input.now in
     let out₀ = s.out.now in
-    let i = l.loop-i.i in
+    let i = c.loop-i.i in
     let done = mono_bytes (take i input) in
     let h : i + 64 ≤ length input = omega arith in
-    let even = l.loop-i.invariant.1 in
+    let even = c.loop-i.invariant.1 in
     let n = length_read input i (omega arith) even in
     let next =
-    written_part done (encode read.means.result) out₀ l.loop-i.out _ l.loop-i.j (omega (arith, n)) l.loop-i.invariant.4 put.put_means.ensures
-    ∙ ap (λ (x : List ℕ). written x out₀) (ap (λ (x : List ℕ). done ++ x) read.means.ensures ∙ read_more input i (omega arith) even) in
+    written_part done (encode c.means.result) out₀ c.loop-i.out _ c.loop-i.j (omega (arith, n)) c.loop-i.invariant.4 c.put_means.ensures
+    ∙ ap (λ (x : List ℕ). written x out₀) (ap (λ (x : List ℕ). done ++ x) c.means.ensures ∙ read_more input i (omega arith) even) in
     let m = length_read input (i + 64) h (omega (arith, even)) in (
       h,
       omega arith,
@@ -65,18 +65,18 @@ returns : tie.Need-returns invariant-loop decreases-loop
 returns c =
     let each = c.before.before in
     let l = each.before.before.before.before in
-    let s = l.args in
-    let i = l.loop-i.i in
-    let even = l.loop-i.invariant.1 in
+    let s = c.args in
+    let i = c.loop-i.i in
+    let even = c.loop-i.invariant.1 in
     let n = length_read s.input.now i (omega arith) even in
-    written_part (mono_bytes (take i s.input.now)) _ s.out.now l.loop-i.out _ l.loop-i.j (omega (arith, n)) l.loop-i.invariant.4 each.mix_down_each.ensures
+    written_part (mono_bytes (take i s.input.now)) _ s.out.now c.loop-i.out _ c.loop-i.j (omega (arith, n)) c.loop-i.invariant.4 c.mix_down_each.ensures
     ∙ ap (λ (x : List ℕ). written x s.out.now) (read_rest s.input.now i (omega arith) even)
 
 same_length : tie.Need-shape_of-out invariant-loop decreases-loop
 same_length c =
     let s = c.before.before.before.before.before.before.before.before.before in
-    let input = s.args.input.now in
-    ap length (returns c) ∙ length_written (mono_bytes input) s.args.out.now (omega (arith, length_mono input s.requires.0))
+    let input = c.args.input.now in
+    ap length (returns c) ∙ length_written (mono_bytes input) c.args.out.now (omega (arith, length_mono input c.requires.0))
 
 pub stereo_to_mono_spec : {M : Type 1} → statement M
 stereo_to_mono_spec = tie.close (tie.spec invariant-loop decreases-loop

@@ -15,7 +15,7 @@ returns : tie.Need-returns
 unfolding mixed
 returns c =
     let s = c.before in
-    answered w16 c.held16.type_inv (simp (to_z-of_z, s.ranges.a, s.ranges.b, (sizes s).left, (sizes s).right, (sizes s).sum) at c.held16.ensures)
+    answered w16 c.held16.type_inv (simp (to_z-of_z, c.ranges.a, c.ranges.b, (sizes s).left, (sizes s).right, (sizes s).sum) at c.held16.ensures)
 
 pub sum_i16_spec : {M : Type 1} → statement M
 sum_i16_spec = tie.close (tie.spec

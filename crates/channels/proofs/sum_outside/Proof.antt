@@ -20,14 +20,14 @@ highest c = room_fits (pos 32767) c.args.b (sfits_lit tt) c.ranges.b
 returns : tie.Need-returns-then-b-lt0
 returns c =
     let s = c.before in
-    let e = simp (to_z-of_z, s.ranges.b) at c.if-b-lt0.true in
-    simp (to_z-of_z, s.ranges.a, s.ranges.b, (sizes s).left, (sizes s).right, lowest s) (room_below s.args.a s.args.b s.ranges.a s.ranges.b e)
+    let e = simp (to_z-of_z, c.ranges.b) at c.if-b-lt0.true in
+    simp (to_z-of_z, c.ranges.a, c.ranges.b, (sizes s).left, (sizes s).right, lowest s) (room_below c.args.a c.args.b c.ranges.a c.ranges.b e)
 
 returns-2 : tie.Need-returns
 returns-2 c =
     let s = c.before in
-    let e = simp (to_z-of_z, s.ranges.b) at c.if-b-lt0.false in
-    simp (to_z-of_z, s.ranges.a, s.ranges.b, (sizes s).left, (sizes s).right, highest s) (room_above s.args.a s.args.b s.ranges.a s.ranges.b e)
+    let e = simp (to_z-of_z, c.ranges.b) at c.if-b-lt0.false in
+    simp (to_z-of_z, c.ranges.a, c.ranges.b, (sizes s).left, (sizes s).right, highest s) (room_above c.args.a c.args.b c.ranges.a c.ranges.b e)
 
 pub sum_outside_spec : {M : Type 1} → statement M
 sum_outside_spec = tie.close (tie.spec

@@ -16,13 +16,13 @@ module _ (t : tie.After-arrived-t) where
   s = t.before.before.before.before
 
   frames : FramesOf s.args.format.channels (frames_of s.args.format.channels s.args.input.now)
-  frames = frames_are_frames s.args.format.channels s.args.input.now (all_by_index (λ (b : ℕ). b < 256) 0 s.args.input.now (λ i h. (t.before.before.before.shared_slice_known-1.given i).fits))
+  frames = frames_are_frames s.args.format.channels s.args.input.now (all_by_index (λ (b : ℕ). b < 256) 0 s.args.input.now (λ i h. (t.shared_slice_known-1.given i).fits))
 
   abbrev out : List ℕ
   out = t.arrived-t.last.1.1.1.0
 
   there : t.arrived-t.result.len ≤ length out
-  there = within s.args.format s.args.s s.args.input.now s.args.out.now s.pre t.arrived-t.result.memory-1 t.arrived-t.result.len t.arrived-t.result.clipped out t.arrived-t.ensures frames
+  there = within s.args.format s.args.s s.args.input.now s.args.out.now s.requires t.arrived-t.result.memory t.arrived-t.result.len t.arrived-t.result.clipped out t.arrived-t.ensures frames
 
 pub end_turn_spec : {M : Type 1} → statement M
 end_turn_spec = tie.close (tie.spec
@@ -31,17 +31,17 @@ end_turn_spec = tie.close (tie.spec
     (λ c. there c.before.before.before.before)
     (λ c. search rules)
     (λ c κs. let t = c.before.before.before.before.before in let a = (s t).args in
-    ((s t).requires.channels, last_fits a.format a.s a.input.now a.out-1.now (s t).requires t.arrived-t.result.memory-1 t.arrived-t.result.len t.arrived-t.result.clipped (out t) t.arrived-t.ensures (frames t)))
+    ((s t).requires.channels, last_fits a.format a.s a.input.now a.out.now (s t).requires c.arrived-t.result.memory c.arrived-t.result.len c.arrived-t.result.clipped (out t) c.arrived-t.ensures (frames t)))
     (λ c. let p = c.before.before in let t = p.before.before.before.before.before.before in let a = (s t).args in
     record {
       fits = omega (
         arith,
-        size-most a.format a.s a.input.now a.out-1.now (s t).requires t.arrived-t.result.memory-1 t.arrived-t.result.len t.arrived-t.result.clipped (out t) t.arrived-t.ensures (frames t)
-            p.put_last-last.result _ p.put_last-last.ensures.0 p.put_last-last.ensures.1,
+        size-most a.format a.s a.input.now a.out.now (s t).requires c.arrived-t.result.memory c.arrived-t.result.len c.arrived-t.result.clipped (out t) c.arrived-t.ensures (frames t)
+            c.put_last-last.result _ c.put_last-last.ensures.0 c.put_last-last.ensures.1,
         (s t).well_formed,
       );
     })
     (λ c. search rules)
     (λ c. let p = c.before.before in let t = p.before.before.before.before.before.before in let a = (s t).args in
-    serves-to-end a.format a.s a.input.now a.out-1.now (s t).requires t.arrived-t.result.memory-1 t.arrived-t.result.len t.arrived-t.result.clipped (out t) t.arrived-t.ensures (frames t)
-    p.put_last-last.result _ p.put_last-last.ensures.0 p.put_last-last.ensures.1))
+    serves-to-end a.format a.s a.input.now a.out.now (s t).requires c.arrived-t.result.memory c.arrived-t.result.len c.arrived-t.result.clipped (out t) c.arrived-t.ensures (frames t)
+    c.put_last-last.result _ c.put_last-last.ensures.0 c.put_last-last.ensures.1))

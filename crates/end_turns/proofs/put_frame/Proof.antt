@@ -16,10 +16,10 @@ returns : tie.Need-returns-then-channels-eq1
 returns c =
     let l = c.before.before.before.before.before.before in
     let s = l.before.before in
-    let two : length s.args.last ≡ 2 = search rules in
-    let f : SFits w16 (get_or s.args.last 0 (pos 0)) = record { sfits = l.left-1.given } in
-    mono_fronted s.args.last s.args.out.now two s.args.channels _ c.if-channels-eq1.true (omega (arith, s.requires))
-    (c.before.before.before.put_i16.ensures ∙ ap (λ (z : ℤ). stored s.args.out.now 0 z) (to_z-of_z f))
+    let two : length c.args.last ≡ 2 = search rules in
+    let f : SFits w16 (get_or c.args.last 0 (pos 0)) = record { sfits = c.left.given } in
+    mono_fronted c.args.last c.args.out.now two c.args.channels _ c.if-channels-eq1.true (omega (arith, c.requires))
+    (c.put_i16.ensures ∙ ap (λ (z : ℤ). stored c.args.out.now 0 z) (to_z-of_z f))
 
 returns-2 : tie.Need-returns
 returns-2 c =
@@ -27,12 +27,12 @@ returns-2 c =
     let p = e.before.before.before in
     let r = p.before.before in
     let s = r.before.before.before in
-    let two : length s.args.last ≡ 2 = search rules in
-    let f : SFits w16 (get_or s.args.last 0 (pos 0)) = record { sfits = r.before.left-1.given } in
-    let g : SFits w16 (get_or s.args.last 1 (pos 0)) = record { sfits = r.right-1.given } in
-    stereo_fronted s.args.last s.args.out.now two s.args.channels _ _ (omega (arith, s.requires, e.if-channels-eq1.false)) (omega (arith, s.requires, e.if-channels-eq1.false))
-    (p.put_i16.ensures ∙ ap (λ (z : ℤ). stored s.args.out.now 0 z) (to_z-of_z f))
-    (c.before.before.put_i16-2.ensures ∙ ap (λ (z : ℤ). stored p.put_i16.new.0 2 z) (to_z-of_z g))
+    let two : length c.args.last ≡ 2 = search rules in
+    let f : SFits w16 (get_or c.args.last 0 (pos 0)) = record { sfits = c.left.given } in
+    let g : SFits w16 (get_or c.args.last 1 (pos 0)) = record { sfits = c.right.given } in
+    stereo_fronted c.args.last c.args.out.now two c.args.channels _ _ (omega (arith, c.requires, c.if-channels-eq1.false)) (omega (arith, c.requires, c.if-channels-eq1.false))
+    (c.put_i16.ensures ∙ ap (λ (z : ℤ). stored c.args.out.now 0 z) (to_z-of_z f))
+    (c.put_i16-2.ensures ∙ ap (λ (z : ℤ). stored c.put_i16.new.s 2 z) (to_z-of_z g))
 
 pub put_frame_spec : {M : Type 1} → statement M
 put_frame_spec = tie.close (tie.spec (λ c. search rules) (λ c. search rules) (λ c κs. search rules) (λ c. search rules) returns (λ c κs. search rules) (λ c. search rules) returns-2)

@@ -30,32 +30,32 @@ module _ (ch : ℕ) (r : LinearResampler) (s : ResamplerState) where
     unfolding resampler_end held_last
     not-on-it p z = rw (ne_eqb r.in_rate r.out_rate unequal, p, ne_eqb s.phase 0 z)
 
-    on-it : s.primed ≡ true → s.phase ≡ 0 → resampler_end ch r s ≡ take ch s.last-1 ∷ []
+    on-it : s.primed ≡ true → s.phase ≡ 0 → resampler_end ch r s ≡ take ch s.last ∷ []
     unfolding resampler_end held_last
     on-it p z = rw (ne_eqb r.in_rate r.out_rate unequal, p, eq-eqb s.phase 0 z)
 
 abbrev start : tie.After-put_frame-arg-1 → tie.Start
 start c = c.before.before.before.before.before.before.before.before.before
 
-ends : (c : tie.After-put_frame-arg-1) → let a = (start c).args in resampler_end a.channels a.r a.s ≡ take a.channels a.s.last-1 ∷ []
+ends : (c : tie.After-put_frame-arg-1) → let a = (start c).args in resampler_end a.channels a.r a.s ≡ take a.channels a.s.last ∷ []
 ends c =
     let z = c.before.before in
     let p = z.before.before in
     let e = p.before.before in
     let a = (start c).args in
-    on-it a.channels a.r a.s e.if-r.false (not-false _ p.if-not-s.false) z.if-s-ne0.false
+    on-it a.channels a.r a.s c.if-r.false (not-false _ c.if-not-s.false) c.if-s-ne0.false
 
 room : (ch : ℕ) (fs : List Frame) (f : Frame) (n : ℕ) → fs ≡ f ∷ [] → length fs * (ch * 2) ≤ n → ch * 2 ≤ n
 room ch fs f n e h = omega (arith, ap (λ (l : List Frame). length l * (ch * 2)) e)
 
 pub put_held_spec : {M : Type 1} → statement M
 put_held_spec = tie.close (tie.spec
-    (λ c. let a = c.before.before.before.args in none_fronted _ a.out-1.now (equal a.channels a.r a.s c.if-r.true))
-    (λ c. let e = c.before.before in let a = e.before.before.before.args in
-    none_fronted _ a.out-1.now (not_held a.channels a.r a.s e.if-r.false (not-true _ c.if-not-s.true)))
-    (λ c. let p = c.before.before in let e = p.before.before in let a = e.before.before.before.args in
-    none_fronted _ a.out-1.now (not-on-it a.channels a.r a.s e.if-r.false (not-false _ p.if-not-s.false) c.if-s-ne0.true))
-    (λ c κs. let s = start c in (s.pre.0, room s.args.channels _ (take s.args.channels s.args.s.last-1) _ (ends c) s.pre.1))
+    (λ c. let a = c.args in none_fronted _ a.out.now (equal a.channels a.r a.s c.if-r.true))
+    (λ c. let e = c.before.before in let a = c.args in
+    none_fronted _ a.out.now (not_held a.channels a.r a.s c.if-r.false (not-true _ c.if-not-s.true)))
+    (λ c. let p = c.before.before in let e = p.before.before in let a = c.args in
+    none_fronted _ a.out.now (not-on-it a.channels a.r a.s c.if-r.false (not-false _ c.if-not-s.false) c.if-s-ne0.true))
+    (λ c κs. let s = start c in (s.requires.0, room s.args.channels _ (take s.args.channels s.args.s.last) _ (ends c) s.requires.1))
     (λ c. search rules)
     (λ c. let m = c.before.before.before in let a = (start m).args in
-    subst (λ (fs : List Frame). Fronted fs a.out-1.now c.before.before.put_frame.new.1.1.0 c.before.before.put_frame.result) (sym (ends m)) c.before.before.put_frame.ensures))
+    subst (λ (fs : List Frame). Fronted fs a.out.now c.put_frame.new.out c.put_frame.result) (sym (ends m)) c.put_frame.ensures))

@@ -26,43 +26,43 @@ start m = m.before.before.before.before.before.before
 pub taken_spec : {M : Type 1} → statement M
 taken_spec = tie.close (tie.spec
     (λ c. search rules) (λ c. search rules)
-    (λ c κs. let t = c.before.before in let s = start t.before.before in
-    (gain_turn_asks s.args.format s.args.s (asks s.args.format s.args.s s.pre) _ t.kind-1.given.1).asks)
+    (λ c κs. let t = c.before in let s = start t.before in
+    (gain_turn_asks s.args.format s.args.s (asks s.args.format s.args.s s.requires) _ c.in-Gain.is).asks)
     (λ c. search rules)
-    (λ c κs. let t = c.before in let s = start t.before.before in
-    (stereo_turn_asks s.args.format s.args.s (asks s.args.format s.args.s s.pre) t.enum_told-1.given.1).asks)
-    (λ c. let t = c.before.before.before.before in let s = start t.before.before in
-    record { fits = omega (arith, stereo_long s.args.format s.args.s (asks s.args.format s.args.s s.pre) t.enum_told-1.given.1, s.good) })
+    (λ c κs. let t = c.before in let s = start t.before in
+    (stereo_turn_asks s.args.format s.args.s (asks s.args.format s.args.s s.requires) c.in-MonoToStereo.is).asks)
+    (λ c. let t = c.before.before.before.before in let s = start t.before in
+    record { fits = omega (arith, stereo_long s.args.format s.args.s (asks s.args.format s.args.s s.requires) c.in-MonoToStereo.is, s.good) })
     (λ c. search rules)
-    (λ c κs. let t = c.before in let s = start t.before.before in
-    (mono_turn_asks s.args.format s.args.s (asks s.args.format s.args.s s.pre) t.enum_told-in-StereoToMono-1.given.1).asks)
+    (λ c κs. let t = c.before in let s = start t.before in
+    (mono_turn_asks s.args.format s.args.s (asks s.args.format s.args.s s.requires) c.in-StereoToMono.is).asks)
     (λ c. search rules) (λ c κs. search rules)
-    (λ c κs. let m = c.before in let t = m.before.before in let s = start t.before.before in
-    (resample-turn-asks s.args.format s.args.s (asks s.args.format s.args.s s.pre) _ _ t.kind-in-Resample-1.given.1 m.held_samples-held.ensures.0 m.held_samples-held.ensures.1).asks)
+    (λ c κs. let m = c.before in let t = m.before in let s = start t.before in
+    (resample-turn-asks s.args.format s.args.s (asks s.args.format s.args.s s.requires) _ _ c.in-Resample.is c.held_samples-held.ensures.0 c.held_samples-held.ensures.1).asks)
     (λ c. search rules)
-    (λ c. let d = c.before.before.before.before in let m = d.before.before in let t = m.before.before in let s = start t.before.before in
-    record { fits = omega (arith, resample-long s.args.format s.args.s (asks s.args.format s.args.s s.pre) _ _ t.kind-in-Resample-1.given.1 m.held_samples-held.ensures.0 m.held_samples-held.ensures.1 d.process-t.result _ (does d.process-t.ensures), s.good) })
+    (λ c. let d = c.before.before.before.before in let m = d.before.before in let t = m.before in let s = start t.before in
+    record { fits = omega (arith, resample-long s.args.format s.args.s (asks s.args.format s.args.s s.requires) _ _ c.in-Resample.is c.held_samples-held.ensures.0 c.held_samples-held.ensures.1 c.process-t.result _ (does c.process-t.ensures), s.good) })
     (λ c. search rules)
-    (λ c κs. let t = c.before.before in let s = start t.before.before in
-    (dc_turn_asks s.args.format s.args.s (asks s.args.format s.args.s s.pre) _ t.kind-in-DcBlock-1.given.1).asks)
+    (λ c κs. let t = c.before in let s = start t.before in
+    (dc_turn_asks s.args.format s.args.s (asks s.args.format s.args.s s.requires) _ c.in-DcBlock.is).asks)
     (λ c. search rules)
-    (λ c κs. let t = c.before.before in let s = start t.before.before in
-    (biquad_turn_asks s.args.format s.args.s (asks s.args.format s.args.s s.pre) _ t.kind-in-Biquad-1.given.1).asks)
+    (λ c κs. let t = c.before in let s = start t.before in
+    (biquad_turn_asks s.args.format s.args.s (asks s.args.format s.args.s s.requires) _ c.in-Biquad.is).asks)
     (λ c. search rules)
-    (λ c. let d = c.before.before in let t = d.before.before.before in let s = start t.before.before in
-    (gain_turned s.args.format s.args.s (asks s.args.format s.args.s s.pre) _ _ _ t.kind-1.given.1 (does d.process-clipped.ensures)).does)
+    (λ c. let d = c.before.before in let t = d.before.before in let s = start t.before in
+    (gain_turned s.args.format s.args.s (asks s.args.format s.args.s s.requires) _ _ _ c.in-Gain.is (does c.process-clipped.ensures)).does)
     (λ c. search rules)
-    (λ c. let d = c.before.before in let t = d.before.before in let s = start t.before.before in
-    (stereo_turned s.args.format s.args.s (asks s.args.format s.args.s s.pre) _ t.enum_told-1.given.1 (does d.mono_to_stereo.ensures)).does)
+    (λ c. let d = c.before.before in let t = d.before.before in let s = start t.before in
+    (stereo_turned s.args.format s.args.s (asks s.args.format s.args.s s.requires) _ c.in-MonoToStereo.is (does c.mono_to_stereo.ensures)).does)
     (λ c. search rules)
-    (λ c. let d = c.before.before in let t = d.before.before in let s = start t.before.before in
-    (mono_turned s.args.format s.args.s (asks s.args.format s.args.s s.pre) _ t.enum_told-in-StereoToMono-1.given.1 (does d.stereo_to_mono.ensures)).does)
+    (λ c. let d = c.before.before in let t = d.before.before in let s = start t.before in
+    (mono_turned s.args.format s.args.s (asks s.args.format s.args.s s.requires) _ c.in-StereoToMono.is (does c.stereo_to_mono.ensures)).does)
     (λ c. search rules)
-    (λ c. let d = c.before.before.before.before in let m = d.before.before in let t = m.before.before in let s = start t.before.before in
-    (resample-turned s.args.format s.args.s (asks s.args.format s.args.s s.pre) _ _ t.kind-in-Resample-1.given.1 m.held_samples-held.ensures.0 m.held_samples-held.ensures.1 d.process-t.result _ (does d.process-t.ensures)).does)
+    (λ c. let d = c.before.before.before.before in let m = d.before.before in let t = m.before in let s = start t.before in
+    (resample-turned s.args.format s.args.s (asks s.args.format s.args.s s.requires) _ _ c.in-Resample.is c.held_samples-held.ensures.0 c.held_samples-held.ensures.1 c.process-t.result _ (does c.process-t.ensures)).does)
     (λ c. search rules)
-    (λ c. let d = c.before.before.before in let t = d.before.before.before in let s = start t.before.before in
-    (dc_turned s.args.format s.args.s (asks s.args.format s.args.s s.pre) _ _ _ t.kind-in-DcBlock-1.given.1 (does d.process-t-in-DcBlock.ensures)).does)
+    (λ c. let d = c.before.before.before in let t = d.before.before in let s = start t.before in
+    (dc_turned s.args.format s.args.s (asks s.args.format s.args.s s.requires) _ _ _ c.in-DcBlock.is (does c.process-t-in-DcBlock.ensures)).does)
     (λ c. search rules)
-    (λ c. let d = c.before.before.before in let t = d.before.before.before in let s = start t.before.before in
-    (biquad_turned s.args.format s.args.s (asks s.args.format s.args.s s.pre) _ _ _ t.kind-in-Biquad-1.given.1 (does d.process-t-in-Biquad.ensures)).does))
+    (λ c. let d = c.before.before.before in let t = d.before.before in let s = start t.before in
+    (biquad_turned s.args.format s.args.s (asks s.args.format s.args.s s.requires) _ _ _ c.in-Biquad.is (does c.process-t-in-Biquad.ensures)).does))

@@ -11,5 +11,5 @@ pub up_to_spec : {M : Type 1} → statement M
 up_to_spec = tie.close (tie.spec
     (λ c. simp (lt-leb _ _ c.if-d-p.true))
     (λ c. search rules)
-    (λ c. let a = c.before.args in record { fits = omega (arith, div-le_self (a.d - a.p) a.step, c.before.requires) })
+    (λ c. let a = c.args in record { fits = omega (arith, div-le_self (a.d - a.p) a.step, c.requires) })
     (λ c. simp (le-leb _ _ c.if-d-p.false)))

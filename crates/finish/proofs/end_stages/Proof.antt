@@ -44,7 +44,7 @@ module _ (t : tie.After-turn-t invariant-loop decreases-loop) where
   at = t.before.before.before.before.before
 
   more : at.loop-i.i < (start at).args.chain.count
-  more = t.before.before.before.before.loop-i-test.taken
+  more = t.loop-i-test.taken
 
   sum : at.loop-i.clipped + t.turn-t.result.clipped ≤ 38400000000000
   sum = let v = at.loop-i.invariant in sum_fits _ _ _ _ _ _ _ _ _ _ no_stage v.5 more v.2 v.1 (room_a at) (room_b at) t.turn-t.ensures.holds
@@ -62,7 +62,7 @@ module _ (c : tie.After-format_after-format invariant-loop decreases-loop) where
   sized : Sized (record { a = l.loop-i.a; b = l.loop-i.b }) after
   sized = let v = l.loop-i.invariant in sized-out _ _ _ _ _ _ _ _ _ _ no_stage v.5 (more turned) v.2 v.1 (room_a l) (room_b l) _ _ _ _ turned.turn-t.ensures c.format_after-format.ensures
 
-  reached : EndReached (start l).args.chain.stages (start l).args.chain.count (start l).args.chain.format-1 (record { a = (start l).args.a.now; b = (start l).args.b.now })
+  reached : EndReached (start l).args.chain.stages (start l).args.chain.count (start l).args.chain.format (record { a = (start l).args.a.now; b = (start l).args.b.now })
       (shorter (start l).args.a.now (start l).args.b.now) c.format_after-format.result turned.turn-t.result.len (l.loop-i.i + 1) after (l.loop-i.clipped + turned.turn-t.result.clipped)
   reached = let v = l.loop-i.invariant in next-reached _ _ _ _ _ _ _ _ _ _ no_stage v.5 (more turned) v.2 v.1 (room_a l) (room_b l) _ _ _ _ turned.turn-t.ensures c.format_after-format.ensures
 
@@ -83,11 +83,11 @@ end_stages_spec =
     (omega (arith, v.5.within, room_a l), (omega (arith, v.5.within, room_b l), served _ _ _ _ _ _ _ _ _ _ no_stage v.5 t.loop-i-test.true v.2 v.1 (room_a l) (room_b l))))
     (λ c. record { fits = omega (arith, sum c.before.before.before.before.before) })
     (λ c κs. search rules) (λ c. search rules) (λ c. search rules)
-    (λ c. let v = (l c).loop-i.invariant in (omega (arith, more (turned c)), v.1, v.2, (sized c).a-1 ∙ v.3, (sized c).b-1 ∙ v.4, reached c))
-    (λ c. c.before.loop-i.invariant.3)
-    (λ c. c.before.loop-i.invariant.4)
+    (λ c. let v = (l c).loop-i.invariant in (omega (arith, more (turned c)), v.1, v.2, (sized c).a ∙ v.3, (sized c).b ∙ v.4, reached c))
+    (λ c. c.loop-i.invariant.3)
+    (λ c. c.loop-i.invariant.4)
     (λ c.
-    let v = c.before.loop-i.invariant in (
+    let v = c.loop-i.invariant in (
       ap₂ (λ (n m : ℕ). let d : EndApplied = record { len = n; clipped = m } in d) (ended_size _ _ _ _ _ _ _ _ _ _ v.5 c.loop-i-test.false) (ended_clipped _ _ _ _ _ _ _ _ _ _ v.5 c.loop-i-test.false),
       ended_halves_lem _ _ _ _ _ _ _ _ _ _ v.5 c.loop-i-test.false,
     )))

@@ -37,12 +37,12 @@ module _ (c : Pipeline) (a b : List ℕ) (short : ℕ) (v : Verdict) (hs : short
 pub finish_spec : {M : Type 1} → statement M
 finish_spec = tie.close (tie.spec
     (λ c κs. search rules) (λ c κs. search rules) (λ c. search rules) (λ c. search rules)
-    (λ c κs. let t = c.before.before in let q = t.before.before in let s = q.before.before.before.before in
-    finishes s.args.chain s.args.a.now s.args.b.now _ _ q.before.shorter_of-shorter.ensures q.finish_question-asked.ensures t.enum_told-1.given.1)
-    (λ c. let q = c.before.before.before in let s = q.before.before.before.before in
-    with_told s.args.chain s.args.a.now s.args.b.now _
-    (refused s.args.chain s.args.a.now s.args.b.now _ _ q.before.shorter_of-shorter.ensures q.finish_question-asked.ensures _ c.before.asked-1.given.1))
+    (λ c κs. let t = c.before.before in let q = t.before in let s = q.before.before.before.before in
+    finishes c.args.chain c.args.a.now c.args.b.now _ _ c.shorter_of-shorter.ensures c.finish_question-asked.ensures c.in-Accepted.is)
+    (λ c. let q = c.before in let s = q.before.before.before.before in
+    with_told c.args.chain c.args.a.now c.args.b.now _
+    (refused c.args.chain c.args.a.now c.args.b.now _ _ c.shorter_of-shorter.ensures c.finish_question-asked.ensures _ c.in-Refused.is))
     (λ c. search rules) (λ c. search rules)
-    (λ c. let p = c.before.before.before.before in let t = p.before.before.before in let q = t.before.before in let s = q.before.before.before.before in
-    with_told s.args.chain s.args.a.now s.args.b.now _
-    (p.play.ensures ∙ took s.args.chain s.args.a.now s.args.b.now _ _ q.before.shorter_of-shorter.ensures q.finish_question-asked.ensures t.enum_told-1.given.1)))
+    (λ c. let p = c.before.before.before.before in let t = p.before.before.before in let q = t.before in let s = q.before.before.before.before in
+    with_told c.args.chain c.args.a.now c.args.b.now _
+    (c.play.ensures ∙ took c.args.chain c.args.a.now c.args.b.now _ _ c.shorter_of-shorter.ensures c.finish_question-asked.ensures c.in-Accepted.is)))

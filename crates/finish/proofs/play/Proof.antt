@@ -13,14 +13,14 @@ use Rattle.finish.proofs.play.Statement.{statement}
 use Rattle.finish.proofs.play.Tie as tie
 
 played : (c : Pipeline) (h h' : Halves) (done : EndApplied) (r : Finished) → done ≡ record { len = finish_bytes c; clipped = finish_clipped c } → h' ≡ ended_halves 0 c.format (stages_of c) [] h → r ≡ ended_as c done
-    → record { chain = r.chain; answer = r.answer; a = h'.a-1; b = h'.b-1 } ≡ finished c h
+    → record { chain = r.chain; answer = r.answer; a = h'.a; b = h'.b } ≡ finished c h
 unfolding ended_as finished
 played c h h' done r n e k =
-    ap₂ (λ (q : Finished) (x : Halves). let w : FinishResult = record { chain = q.chain; answer = q.answer; a = x.a-1; b = x.b-1 } in w) (k ∙ ap (ended_as c) n) e
+    ap₂ (λ (q : Finished) (x : Halves). let w : FinishResult = record { chain = q.chain; answer = q.answer; a = x.a; b = x.b } in w) (k ∙ ap (ended_as c) n) e
 
 pub play_spec : {M : Type 1} → statement M
 play_spec = tie.close (tie.spec
     (λ c κs. search rules) (λ c κs. search rules) (λ c. search rules) (λ c. search rules)
     (λ c.
     let e = c.before.before.before.before.before in
-    played _ _ _ _ _ e.end_stages-done.ensures.0 e.end_stages-done.ensures.1 c.conclude.ensures))
+    played _ _ _ _ _ c.end_stages-done.ensures.0 c.end_stages-done.ensures.1 c.conclude.ensures))

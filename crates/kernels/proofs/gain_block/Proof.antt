@@ -6,4 +6,4 @@ use Rattle.kernels.proofs.gain_block.Tie as tie
 
 pub gain_block_spec : {M : Type 1} → statement M
 gain_block_spec = tie.close (tie.spec (λ c κs. search rules) (λ c. search rules)
-    (λ c. rw (to_z-of_z c.before.before.before.before.before.before.ranges.q15) at c.before.before.process.ensures))
+    (λ c. rw (to_z-of_z c.ranges.q15) at c.process.ensures))

@@ -7,7 +7,7 @@ use Rattle.kernels.proofs.mix_block.Tie as tie
 
 returns : tie.Need-returns
 returns c =
-    let mix = c.before.before.before.mix_i16.ensures.0 in
+    let mix = c.mix_i16.ensures.0 in
     (ap (λ t. t.clipped) (c.told.ensures ∙ ap mix_told mix.0), rw mix.0 at mix.1)
 
 pub mix_block_spec : {M : Type 1} → statement M

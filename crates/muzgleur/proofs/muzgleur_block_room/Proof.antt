@@ -8,4 +8,4 @@ use Rattle.muzgleur.proofs.muzgleur_block_room.Tie as tie
 pub muzgleur_block_room_spec : {M : Type 1} → statement M
 muzgleur_block_room_spec = tie.close (tie.spec
     (λ c κs. search rules) (λ c κs. search rules)
-    (λ c. c.told.ensures ∙ ap room_told c.before.block_room.ensures))
+    (λ c. c.told.ensures ∙ ap room_told c.block_room.ensures))

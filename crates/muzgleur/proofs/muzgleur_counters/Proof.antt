@@ -7,5 +7,5 @@ use Rattle.muzgleur.proofs.muzgleur_counters.Tie as tie
 pub muzgleur_counters_spec : {M : Type 1} → statement M
 muzgleur_counters_spec = tie.close (tie.spec
     (λ c κs. search rules) (λ c κs. search rules)
-    (λ c. rw (sym c.before.stand.ensures ∙ c.if-stand.true, ← c.before.before.chain_of-own.ensures.0))
-    (λ c. rw (sym c.before.stand.ensures ∙ c.if-stand.false, ← c.before.before.chain_of-own.ensures.0)))
+    (λ c. rw (sym c.stand.ensures ∙ c.if-stand.true, ← c.chain_of-own.ensures.0))
+    (λ c. rw (sym c.stand.ensures ∙ c.if-stand.false, ← c.chain_of-own.ensures.0)))

@@ -8,4 +8,4 @@ use Rattle.muzgleur.proofs.muzgleur_finish_room.Tie as tie
 pub muzgleur_finish_room_spec : {M : Type 1} → statement M
 muzgleur_finish_room_spec = tie.close (tie.spec
     (λ c κs. search rules) (λ c κs. search rules)
-    (λ c. c.told.ensures ∙ ap room_told c.before.finish_room.ensures))
+    (λ c. c.told.ensures ∙ ap room_told c.finish_room.ensures))

@@ -17,30 +17,30 @@ use Rattle.muzgleur.proofs.muzgleur_open.Statement.{statement}
 use Rattle.muzgleur.proofs.muzgleur_open.Tie as tie
 
 returns : tie.Need-returns-then-chain-lt-CHAIN_WORDS
-returns c = (rw (lt-leb 152 (length c.before.before.before.args.chain.now) c.if-chain-lt-CHAIN_WORDS.true), λ e. absurd (let z : ⊥ = omega arith in z))
+returns c = (rw (lt-leb 152 (length c.args.chain.now) c.if-chain-lt-CHAIN_WORDS.true), λ e. absurd (let z : ⊥ = omega arith in z))
 
 returns-2 : tie.Need-returns-in-Accepted
 returns-2 c =
     let p = c.before.before in
     let t = p.before.before in
-    let o = t.before.before.before in
+    let o = t.before.before in
     let n = o.before in
     let a = n.before.before.before in
-    let w = a.args.chain.now in
-    let f : PcmFormat = record { rate = a.args.rate; channels = a.args.channels } in
+    let w = c.args.chain.now in
+    let f : PcmFormat = record { rate = c.args.rate; channels = c.args.channels } in
     let q = o.«open».ensures in (
-      rw (le-leb 152 (length w) n.if-chain-lt-CHAIN_WORDS.false, ← q, t.enum_told-1.given.1, p.put_chain.ensures.0),
-      λ z. ap chain_of_words (p.put_chain.ensures.0 ∙ ap (λ (x : Opened). written (words_of x.chain-1) w) q)
-          ∙ open_stands f a.ranges.channels.fits a.args.recipe.now w (subst (λ (x : Opened). x.verdict-1 ≡ Accepted) q t.enum_told-1.given.1) (subst (λ (x : Opened). All HeldStage x.chain-1.stages) q p.put_chain.ensures.1),
+      rw (le-leb 152 (length w) c.if-chain-lt-CHAIN_WORDS.false, ← q, c.in-Accepted.is, c.put_chain.ensures.0),
+      λ z. ap chain_of_words (c.put_chain.ensures.0 ∙ ap (λ (x : Opened). written (words_of x.chain) w) q)
+          ∙ open_stands f c.ranges.channels.fits c.args.recipe.now w (subst (λ (x : Opened). x.verdict ≡ Accepted) q c.in-Accepted.is) (subst (λ (x : Opened). All HeldStage x.chain.stages) q c.put_chain.ensures.1),
     )
 
 returns-3 : tie.Need-returns-in-Refused
 returns-3 c =
-    let v = c.before.before in
-    let o = v.before.before.before in
+    let v = c.before in
+    let o = v.before.before in
     let n = o.before in (
-      rw (le-leb 152 (length n.before.before.before.args.chain.now) n.if-chain-lt-CHAIN_WORDS.false, ← o.«open».ensures, v.verdict-1.given.1, c.number.ensures),
-      λ z. let n = (number_within v.verdict-1.given.0.0).0 in absurd (omega (arith, n, sym c.number.ensures ∙ z)),
+      rw (le-leb 152 (length c.args.chain.now) c.if-chain-lt-CHAIN_WORDS.false, ← o.«open».ensures, c.in-Refused.is, c.number.ensures),
+      λ z. let n = (number_within c.in-Refused.e).0 in absurd (omega (arith, n, sym c.number.ensures ∙ z)),
     )
 
 pub muzgleur_open_spec : {M : Type 1} → statement M

@@ -6,4 +6,4 @@ use Rattle.muzgleur.proofs.muzgleur_output_format.Tie as tie
 pub muzgleur_output_format_spec : {M : Type 1} → statement M
 muzgleur_output_format_spec = tie.close (tie.spec
     (λ c κs. search rules) (λ c κs. search rules)
-    (λ c. rw (c.output_format-format.ensures, c.before.chain_of.ensures.0)))
+    (λ c. rw (c.output_format-format.ensures, c.chain_of.ensures.0)))

@@ -13,7 +13,7 @@ returns c = rw (lt-leb _ 1048576 c.if-recipe-gt-MAX_RECIPE.true)
 
 returns-2 : tie.Need-returns
 unfolding desk_verdict
-returns-2 c = rw (le-leb _ 1048576 c.before.if-recipe-gt-MAX_RECIPE.false) (ap (λ (o : Opened). o.verdict) c.open-opened.ensures)
+returns-2 c = rw (le-leb _ 1048576 c.if-recipe-gt-MAX_RECIPE.false) (ap (λ (o : Opened). o.verdict) c.open-opened.ensures)
 
 pub desk_question_spec : {M : Type 1} → statement M
 desk_question_spec = tie.close (tie.spec returns (λ c κs. search rules) returns-2)

@@ -25,7 +25,7 @@ abbrev pageBytes : tie.Start → List ℕ
 pageBytes s = page_of s.args.rate.now s.args.channels.now s.args.recipe.now
 
 verdict_is : (c : tie.After-desk_question-verdict) → c.desk_question-verdict.result ≡ desk_verdict (format_of (start c).args.rate.now (start c).args.channels.now) (start c).args.recipe.now
-verdict_is c = c.desk_question-verdict.ensures ∙ ap (λ (f : PcmFormat). desk_verdict f (start c).args.recipe.now) c.before.format-format.ensures
+verdict_is c = c.desk_question-verdict.ensures ∙ ap (λ (f : PcmFormat). desk_verdict f (start c).args.recipe.now) c.format-format.ensures
 
 readable : (c : tie.After-desk_question-verdict) → Readable c.desk_question-verdict.result (start c).args.recipe.now
 readable c = desk_readable _ _ _ (verdict_is c)
@@ -44,27 +44,27 @@ asked c = let s = start c.before.before.before in ap (λ (n : ℕ). room_verdict
 returns : tie.Need-returns-in-Refused
 unfolding page_call
 returns c =
-    let q = c.before.before.before in
+    let q = c.before in
     let s = start q.before.before.before in
-    concluded (room_verdict (length (pageBytes s)) (length s.args.out.now)) (pageBytes s) s.args.out.now _ _ (Refused _) (asked q ∙ c.before.room-1.given.1) refl
+    concluded (room_verdict (length (pageBytes s)) (length s.args.out.now)) (pageBytes s) s.args.out.now _ _ (Refused _) (asked q ∙ c.in-Refused.is) refl
 
 write-page-requires : tie.Need-write_page-requires
 write-page-requires c κs =
     let t = c.before in
-    let q = t.before.before in
+    let q = t.before in
     let d = q.before.before.before in
-    (readable d, rw (page-is d) (room_enough _ _ (asked q ∙ t.enum_told-1.given.1)))
+    (readable d, rw (page-is d) (room_enough _ _ (asked q ∙ c.in_default.is)))
 
 returns-2 : tie.Need-returns
 unfolding page_call
 returns-2 c =
     let w = c.before.before in
     let t = w.before.before in
-    let q = t.before.before in
+    let q = t.before in
     let d = q.before.before.before in
     let s = start d in
     wrote (room_verdict (length (pageBytes s)) (length s.args.out.now)) (pageBytes s) s.args.out.now _ _ (sized q.before.before)
-    (w.write_page.ensures ∙ ap (λ (l : List ℕ). written l s.args.out.now) (page-is d)) (asked q ∙ t.enum_told-1.given.1)
+    (c.write_page.ensures ∙ ap (λ (l : List ℕ). written l s.args.out.now) (page-is d)) (asked q ∙ c.in_default.is)
 
 pub page_spec : {M : Type 1} → statement M
 page_spec = tie.close (tie.spec

@@ -13,14 +13,14 @@ returns c =
     let t = c.before.before in
     let h2 = t.before.before.before.before in
     let h1 = h2.before.before.before.before in
-    let a = h1.before.before.before.before.args in
-    rw (t.put_text.ensures, h2.put_hex-2.ensures, h1.put_hex.ensures) (line_stored a.kind a.text.now a.out-1.now a.to)
+    let a = c.args in
+    rw (c.put_text.ensures, c.put_hex-2.ensures, c.put_hex.ensures) (line_stored a.kind a.text.now a.out.now a.to)
 
 same_length : tie.Need-shape_of-out
 same_length c =
     let h1 = c.before.before.before.before.before.before.before.before.before.before in
-    let a = h1.before.before.before.before.args in
-    ap length (returns c) ∙ length-sets a.out-1.now a.to (line_of (record { kind = a.kind; text = a.text.now }))
+    let a = c.args in
+    ap length (returns c) ∙ length-sets a.out.now a.to (line_of (record { kind = a.kind; text = a.text.now }))
 
 pub put_line_spec : {M : Type 1} → statement M
 put_line_spec = tie.close (tie.spec

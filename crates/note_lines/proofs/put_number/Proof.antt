@@ -13,31 +13,31 @@ use Rattle.note_lines.specs.Page.{number_line}
 use Rattle.note_lines.proofs.put_number.Statement.{statement}
 use Rattle.note_lines.proofs.put_number.Tie as tie
 
-one : (c : tie.Then-number-lt10) → number_line c.before.before.args.number ≡ digit c.before.before.args.number ∷ 0x0a ∷ []
+one : (c : tie.Then-number-lt10) → number_line c.args.number ≡ digit c.args.number ∷ 0x0a ∷ []
 unfolding number_line
 one c = rw (lt-ltb _ 10 c.if-number-lt10.true)
 
-two : (c : tie.Else-number-lt10) → number_line c.before.before.args.number ≡ digit (c.before.before.args.number / 10) ∷ digit (c.before.before.args.number % 10) ∷ 0x0a ∷ []
+two : (c : tie.Else-number-lt10) → number_line c.args.number ≡ digit (c.args.number / 10) ∷ digit (c.args.number % 10) ∷ 0x0a ∷ []
 unfolding number_line
 two c = rw (le-ltb _ 10 c.if-number-lt10.false)
 
-room-one : (c : tie.Then-number-lt10) → 2 ≤ length c.before.before.args.out.now
-room-one c = omega (arith, c.before.before.requires.1, ap length (one c))
+room-one : (c : tie.Then-number-lt10) → 2 ≤ length c.args.out.now
+room-one c = omega (arith, c.requires.1, ap length (one c))
 
-room-two : (c : tie.Else-number-lt10) → 3 ≤ length c.before.before.args.out.now
-room-two c = omega (arith, c.before.before.requires.1, ap length (two c))
+room-two : (c : tie.Else-number-lt10) → 3 ≤ length c.args.out.now
+room-two c = omega (arith, c.requires.1, ap length (two c))
 
 returns : tie.Need-returns-then-number-lt10
 returns c =
     let t = c.before in
-    let a = t.before.before.args in
+    let a = c.args in
     rw c.digit.ensures (front_run (digit a.number ∷ 0x0a ∷ []) a.out.now (room-one t) ∙ ap (λ (l : List ℕ). written l a.out.now) (sym (one t)))
 
 returns-2 : tie.Need-returns
 returns-2 c =
     let t = c.before.before in
-    let a = t.before.before.args in
-    rw (c.before.digit-2.ensures, c.digit-3.ensures)
+    let a = c.args in
+    rw (c.digit-2.ensures, c.digit-3.ensures)
     (front_run (digit (a.number / 10) ∷ digit (a.number % 10) ∷ 0x0a ∷ []) a.out.now (room-two t) ∙ ap (λ (l : List ℕ). written l a.out.now) (sym (two t)))
 
 pub put_number_spec : {M : Type 1} → statement M
@@ -48,8 +48,8 @@ put_number_spec = tie.close (tie.spec
     (λ c. rw length-set (omega (arith, room-one c.before)))
     (λ c. search rules)
     returns
-    (λ c. omega (arith, c.before.before.requires.0))
-    (λ c κs. omega (arith, c.before.before.requires.0))
+    (λ c. omega (arith, c.requires.0))
+    (λ c κs. omega (arith, c.requires.0))
     (λ c. omega (arith, room-two c.before))
     (λ c. omega arith)
     (λ c κs. omega arith)

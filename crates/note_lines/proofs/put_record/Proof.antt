@@ -11,17 +11,17 @@ use Rattle.note_lines.specs.laws.Lines.{length_line}
 use Rattle.note_lines.proofs.put_record.Statement.{statement}
 use Rattle.note_lines.proofs.put_record.Tie as tie
 
-none : (c : tie.Then-not-of_note) → of_note c.before.before.before.before.args.kind ≡ false
-none c = sym c.before.of_note.ensures ∙ not-true _ c.if-not-of_note.true
+none : (c : tie.Then-not-of_note) → of_note c.args.kind ≡ false
+none c = sym c.of_note.ensures ∙ not-true _ c.if-not-of_note.true
 
-note : (c : tie.Else-not-of_note) → of_note c.before.before.before.before.args.kind ≡ true
-note c = sym c.before.of_note.ensures ∙ not-false _ c.if-not-of_note.false
+note : (c : tie.Else-not-of_note) → of_note c.args.kind ≡ true
+note c = sym c.of_note.ensures ∙ not-false _ c.if-not-of_note.false
 
-room : (c : tie.Else-not-of_note) → c.before.before.before.before.args.to + (5 + 2 * length c.before.before.before.before.args.text.now) ≤ length c.before.before.before.before.args.out.now
+room : (c : tie.Else-not-of_note) → c.args.to + (5 + 2 * length c.args.text.now) ≤ length c.args.out.now
 room c =
     let s = c.before.before.before.before in
-    let h = rw (note c) at s.requires in
-    omega (arith, h, length_line (record { kind = s.args.kind; text = s.args.text.now }))
+    let h = rw (note c) at c.requires in
+    omega (arith, h, length_line (record { kind = c.args.kind; text = c.args.text.now }))
 
 out-fits : (s : tie.Start) → length s.args.out.now < 2 ^ 64
 out-fits s = omega arith
@@ -33,8 +33,8 @@ returns-2 : tie.Need-returns
 returns-2 c =
     let p = c.before.before in
     let e = p.before.before in
-    let a = e.before.before.before.before.args in
-    rw (note e) (sym (length_line (record { kind = a.kind; text = a.text.now })), p.put_line.ensures)
+    let a = c.args in
+    rw (note e) (sym (length_line (record { kind = a.kind; text = a.text.now })), c.put_line.ensures)
 
 pub put_record_spec : {M : Type 1} → statement M
 put_record_spec = tie.close (tie.spec

@@ -28,7 +28,7 @@ abbrev bytes_of : tie.At-loop-at invariant-loop decreases-loop → List ℕ
 bytes_of l = (entry l).args.recipe.now
 
 abbrev left_of : tie.In-loop-at invariant-loop decreases-loop → List ℕ
-left_of i = drop i.before.loop-at.at (bytes_of i.before)
+left_of i = drop i.loop-at.at (bytes_of i.before)
 
 bytes_fit : (s : tie.Start invariant-loop decreases-loop) → length s.args.recipe.now < 2 ^ 64
 bytes_fit s = omega arith
@@ -36,43 +36,43 @@ bytes_fit s = omega arith
 room_fits : (s : tie.Start invariant-loop decreases-loop) → length s.args.out.now < 2 ^ 64
 room_fits s = omega arith
 
-there : (i : tie.In-loop-at invariant-loop decreases-loop) → i.before.loop-at.at + (2 + length_at (left_of i)) ≤ length (bytes_of i.before)
-there i = next-within i.before.loop-at.invariant.1 i.loop-at-test.true
+there : (i : tie.In-loop-at invariant-loop decreases-loop) → i.loop-at.at + (2 + length_at (left_of i)) ≤ length (bytes_of i.before)
+there i = next-within i.loop-at.invariant.1 i.loop-at-test.true
 
-four : (i : tie.In-loop-at invariant-loop decreases-loop) → i.before.loop-at.at + 4 ≤ length (bytes_of i.before)
-four i = next_four i.before.loop-at.invariant.1 i.loop-at-test.true
+four : (i : tie.In-loop-at invariant-loop decreases-loop) → i.loop-at.at + 4 ≤ length (bytes_of i.before)
+four i = next_four i.loop-at.invariant.1 i.loop-at-test.true
 
 two : (i : tie.In-loop-at invariant-loop decreases-loop) → 2 ≤ length_at (left_of i)
-two i = (next-whole i.before.loop-at.invariant.1 i.loop-at-test.true).two
+two i = (next-whole i.loop-at.invariant.1 i.loop-at-test.true).two
 
 kept : (l : tie.At-loop-at invariant-loop decreases-loop) → length l.loop-at.out ≡ length (entry l).args.out.now
 kept l = ap length l.loop-at.invariant.3 ∙ length-sets (entry l).args.out.now 0 l.loop-at.invariant.0
 
 -- the line has room
-room : (i : tie.In-loop-at invariant-loop decreases-loop) → i.before.loop-at.to + length (line_here (left_of i)) ≤ length (entry i.before).args.out.now
+room : (i : tie.In-loop-at invariant-loop decreases-loop) → i.loop-at.to + length (line_here (left_of i)) ≤ length (entry i.before).args.out.now
 room i =
     let l = i.before in
-    omega (arith, line-room l.loop-at.invariant.1 i.loop-at-test.true, (entry l).requires.1, l.loop-at.invariant.2)
+    omega (arith, line-room i.loop-at.invariant.1 i.loop-at-test.true, (entry l).requires.1, i.loop-at.invariant.2)
 
 -- the length, the kind and the bytes after it that were read
-length_is : (c : tie.After-get_u16-kind invariant-loop decreases-loop) → c.before.get_u16.result ≡ length_at (left_of c.before.before)
-length_is c = c.before.get_u16.ensures
+length_is : (c : tie.After-get_u16-kind invariant-loop decreases-loop) → c.get_u16.result ≡ length_at (left_of c.before.before)
+length_is c = c.get_u16.ensures
 
 line-is : (c : tie.After-get_u16-kind invariant-loop decreases-loop)
     → line_if c.get_u16-kind.result
-    (take (c.before.before.before.loop-at.at + (2 + c.before.get_u16.result) - (c.before.before.before.loop-at.at + 4)) (drop (c.before.before.before.loop-at.at + 4) (bytes_of c.before.before.before)))
+    (take (c.loop-at.at + (2 + c.get_u16.result) - (c.loop-at.at + 4)) (drop (c.loop-at.at + 4) (bytes_of c.before.before.before)))
     ≡ line_here (left_of c.before.before)
 line-is c =
     let i = c.before.before in
-    let w = i.before.loop-at.invariant.1 in
-    ap₂ line_if (c.get_u16-kind.ensures ∙ kind-there w i.loop-at-test.true) (rw (length_is c) (text-there w i.loop-at-test.true))
+    let w = c.loop-at.invariant.1 in
+    ap₂ line_if (c.get_u16-kind.ensures ∙ kind-there w c.loop-at-test.true) (rw (length_is c) (text-there w c.loop-at-test.true))
 
 returns : tie.Need-returns invariant-loop decreases-loop
 returns c =
     let l = c.before in
     let s = entry l in
-    let e = walked_end l.loop-at.invariant.1 c.loop-at-test.false in
-    l.loop-at.invariant.3 ∙ ap (sets s.args.out.now 0) (sym e) ∙ front_run (lines_of (bytes_of l)) s.args.out.now s.pre.1
+    let e = walked_end c.loop-at.invariant.1 c.loop-at-test.false in
+    c.loop-at.invariant.3 ∙ ap (sets s.args.out.now 0) (sym e) ∙ front_run (lines_of (bytes_of l)) s.args.out.now s.requires.1
 
 loop-again : tie.Need-loop-at-preserved invariant-loop decreases-loop
 loop-again c =
@@ -80,19 +80,19 @@ loop-again c =
     let g = p.before.before.before in
     let i = g.before.before in
     let l = i.before in
-    let done = l.loop-at.invariant.0 in
+    let done = c.loop-at.invariant.0 in
     let line = line_here (left_of i) in
     let out = (entry l).args.out.now in
-    let e : l.loop-at.to ≡ 0 + length done = omega (arith, l.loop-at.invariant.2) in
-    let stored = p.put_record-to.ensures.1
-    ∙ ap₂ (λ (o x : List ℕ). sets o l.loop-at.to x) l.loop-at.invariant.3 (line-is g)
+    let e : c.loop-at.to ≡ 0 + length done = omega (arith, c.loop-at.invariant.2) in
+    let stored = c.put_record-to.ensures.1
+    ∙ ap₂ (λ (o x : List ℕ). sets o c.loop-at.to x) c.loop-at.invariant.3 (line-is g)
     ∙ ap (λ (k : ℕ). sets (sets out 0 done) k line) e ∙ sym (sets_append done line out 0) in
-    let size = ap₂ ◌+◌ l.loop-at.invariant.2 (p.put_record-to.ensures.0 ∙ ap length (line-is g)) ∙ sym (length-append done line) in
-    rw (length_is g) (done ++ line, walked_next l.loop-at.invariant.1 i.loop-at-test.true, size, stored)
+    let size = ap₂ ◌+◌ c.loop-at.invariant.2 (c.put_record-to.ensures.0 ∙ ap length (line-is g)) ∙ sym (length-append done line) in
+    rw (length_is g) (done ++ line, walked_next c.loop-at.invariant.1 c.loop-at-test.true, size, stored)
 
 pub write_lines_spec : {M : Type 1} → statement M
 write_lines_spec = tie.close (tie.spec invariant-loop decreases-loop
-    (λ c. ([], walked_start c.before.before.args.recipe.now c.before.before.requires.0, refl, refl))
+    (λ c. ([], walked_start c.args.recipe.now c.requires.0, refl, refl))
     (λ c κs. omega (arith, four c))
     (λ c. search rules)
     (λ c. search rules)
@@ -104,8 +104,8 @@ write_lines_spec = tie.close (tie.spec invariant-loop decreases-loop
     (λ c. omega (arith, two c.before.before, length_is c))
     (λ c. omega (arith, there c.before.before, length_is c))
     (λ c κs. let g = c.before.before in let i = g.before.before in omega (arith, room i, kept i.before, ap length (line-is g)))
-    (λ c. let p = c.before.before in let g = p.before.before.before in let i = g.before.before in omega (arith, room i, p.put_record-to.ensures.0, ap length (line-is g), room_fits (entry i.before)))
-    (λ c. let g = c.before.before.before.before.before in let i = g.before.before in omega (arith, there i, length_is g, i.loop-at-test.true))
+    (λ c. let p = c.before.before in let g = p.before.before.before in let i = g.before.before in omega (arith, room i, c.put_record-to.ensures.0, ap length (line-is g), room_fits (entry i.before)))
+    (λ c. let g = c.before.before.before.before.before in let i = g.before.before in omega (arith, there i, length_is g, c.loop-at-test.true))
     loop-again
     (λ c. kept c.before)
     returns)

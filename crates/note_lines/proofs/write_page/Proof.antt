@@ -12,26 +12,26 @@ use Rattle.note_lines.proofs.write_page.Tie as tie
 write-lines-requires : tie.Need-write_lines-requires
 write-lines-requires c κs =
     let t = c.before in
-    let p = rw t.enum_told-1.given.1 at t.before.before.before.before.requires in
+    let p = rw c.in-Accepted.is at c.requires in
     (p.0.0, p.1)
 
 put-number-requires : tie.Need-put_number-requires
 put-number-requires c κs =
-    let t = c.before.before.before in
-    let p = rw t.verdict-1.given.1 at t.before.before.before.before.requires in
-    rw c.before.number.ensures ((number_within t.verdict-1.given.0.0).1, p.1)
+    let t = c.before.before in
+    let p = rw c.in-Refused.is at c.requires in
+    rw c.number.ensures ((number_within c.in-Refused.e).1, p.1)
 
 returns : tie.Need-returns-in-Accepted
 returns c =
     let w = c.before.before in
-    rw w.before.before.enum_told-1.given.1 w.write_lines.ensures
+    rw c.in-Accepted.is c.write_lines.ensures
 
 returns-2 : tie.Need-returns-in-Refused
 returns-2 c =
     let w = c.before.before in
     let n = w.before.before in
-    let s = n.before.before.before.before.before.before in
-    rw n.before.before.verdict-1.given.1 (w.put_number.ensures ∙ ap (λ (k : ℕ). written (number_line k) s.args.out.now) n.number.ensures)
+    let s = n.before.before.before.before in
+    rw c.in-Refused.is (c.put_number.ensures ∙ ap (λ (k : ℕ). written (number_line k) c.args.out.now) c.number.ensures)
 
 pub write_page_spec : {M : Type 1} → statement M
 write_page_spec = tie.close (tie.spec

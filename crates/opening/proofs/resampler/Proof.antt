@@ -16,15 +16,15 @@ made_refused e = let z : ◌≡◌ {A = ℕ} 0 1 = cc in omega arith
 
 returns : tie.Need-returns-in_default
 returns c =
-    let a = c.before.before.before.args in
-    absurd (made_refused (sym (opened_made a.in_rate a.out_rate c.before.before.before.requires) ∙ sym c.before.before.new-made.ensures.0 ∙ c.enum_told-1.given.1))
+    let a = c.args in
+    absurd (made_refused (sym (opened_made a.in_rate a.out_rate c.requires) ∙ sym c.new-made.ensures.0 ∙ c.in_default.is))
 
 returns-2 : tie.Need-returns
 returns-2 c =
-    let s = c.before.before.before.before in
-    let e = opened_made s.args.in_rate s.args.out_rate s.requires in
-    let m = c.before.before.before.new-made.ensures.0 in
-    let t = c.before.made-1.given.1 in
+    let s = c.before.before in
+    let e = opened_made c.args.in_rate c.args.out_rate c.requires in
+    let m = c.new-made.ensures.0 in
+    let t = c.in-Made.is in
     cc
 
 pub resampler_spec : {M : Type 1} → statement M

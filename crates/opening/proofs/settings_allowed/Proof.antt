@@ -8,16 +8,16 @@ use Rattle.opening.proofs.settings_allowed.Tie as tie
 
 returns : tie.Need-returns-in-Gain
 returns c =
-    let q = c.before.before.found-1.given.0.0 in
+    let q = c.in-Gain.q15 in
     let e : to_z w32 (of_z w32 q) ≡ q = search rules in
-    rw c.before.before.found-1.given.1 (rw e at c.allowed.ensures)
+    rw c.in-Gain.is (rw e at c.allowed.ensures)
 
 pub settings_allowed_spec : {M : Type 1} → statement M
 settings_allowed_spec = tie.close (tie.spec
     (λ c. search rules) (λ c κs. search rules) (λ c. search rules) (λ c. search rules) (λ c. search rules) (λ c κs. search rules) (λ c. search rules) (λ c. search rules) (λ c κs. search rules)
     returns
-    (λ c. rw c.enum_told-1.given.1)
-    (λ c. rw c.enum_told-in-StereoToMono-1.given.1)
-    (λ c. rw c.before.before.found-in-Resample-1.given.1 c.rates_allowed.ensures)
-    (λ c. rw c.enum_told-in-DcBlock-1.given.1)
-    (λ c. rw c.before.before.found-in-Biquad-1.given.1 c.rate_allowed.ensures))
+    (λ c. rw c.in-MonoToStereo.is)
+    (λ c. rw c.in-StereoToMono.is)
+    (λ c. rw c.in-Resample.is c.rates_allowed.ensures)
+    (λ c. rw c.in-DcBlock.is)
+    (λ c. rw c.in-Biquad.is c.rate_allowed.ensures))

@@ -10,25 +10,25 @@ use Rattle.opening.specs.Opening.{stage_verdict, settings_allowed, record_suits}
 use Rattle.opening.proofs.stage_of.Statement.{statement}
 use Rattle.opening.proofs.stage_of.Tie as tie
 
-within : (c : tie.After-settings_allowed-within) → c.settings_allowed-within.result ≡ settings_allowed c.before.args.found
+within : (c : tie.After-settings_allowed-within) → c.settings_allowed-within.result ≡ settings_allowed c.args.found
 within c = c.settings_allowed-within.ensures
 
-suited : (c : tie.After-suits-suited) → c.suits-suited.result ≡ record_suits c.before.before.args.format c.before.before.args.found
+suited : (c : tie.After-suits-suited) → c.suits-suited.result ≡ record_suits c.args.format c.args.found
 suited c = c.suits-suited.ensures
 
 -- the answers to the questions so far, where the next is asked
-among : (c : tie.Else-before-ge8) → ltb 0 (8 - c.before.before.before.args.before) ≡ true
-among c = lt-ltb 0 (8 - c.before.before.before.args.before) (omega arith)
+among : (c : tie.Else-before-ge8) → ltb 0 (8 - c.args.before) ≡ true
+among c = lt-ltb 0 (8 - c.args.before) (omega arith)
 
-is_within : (c : tie.Else-not-within) → settings_allowed c.before.before.before.before.args.found ≡ true
+is_within : (c : tie.Else-not-within) → settings_allowed c.args.found ≡ true
 is_within c = sym (within c.before.before.before) ∙ not-false _ c.if-not-within.false
 
-is-suited : (c : tie.Else-not-suited) → record_suits c.before.before.before.before.before.args.format c.before.before.before.before.before.args.found ≡ true
+is-suited : (c : tie.Else-not-suited) → record_suits c.args.format c.args.found ≡ true
 is-suited c = sym (suited c.before.before.before) ∙ not-false _ c.if-not-suited.false
 
 returns : tie.Need-returns-then-before-ge8
 unfolding stage_verdict
-returns c = let e : 8 - c.before.before.before.args.before ≡ 0 = omega arith in rw e
+returns c = let e : 8 - c.args.before ≡ 0 = omega arith in rw e
 
 returns-2 : tie.Need-returns-then-not-within
 unfolding stage_verdict
@@ -44,4 +44,4 @@ returns-4 c = rw (among c.before.before.before, is_within c.before.before, is-su
 
 pub stage_of_spec : {M : Type 1} → statement M
 stage_of_spec = tie.close (tie.spec (λ c κs. search rules) (λ c κs. search rules) returns returns-2 returns-3
-    (λ c κs. (is_within c.before, c.before.before.before.before.before.requires)) returns-4)
+    (λ c κs. (is_within c.before, c.requires)) returns-4)

@@ -6,9 +6,9 @@ use Rattle.opening.proofs.suits.Tie as tie
 pub suits_spec : {M : Type 1} → statement M
 suits_spec = tie.close (tie.spec
     (λ c. search rules) (λ c. search rules) (λ c. search rules) (λ c. search rules) (λ c. search rules) (λ c. search rules)
-    (λ c. rw c.enum_told-1.given.1)
-    (λ c. rw c.before.enum_told-in-MonoToStereo-1.given.1)
-    (λ c. rw c.before.enum_told-in-StereoToMono-1.given.1)
-    (λ c. rw c.before.before.found-1.given.1)
-    (λ c. rw c.enum_told-in-DcBlock-1.given.1)
-    (λ c. rw c.before.before.found-in-Biquad-1.given.1))
+    (λ c. rw c.in-Gain.is)
+    (λ c. rw c.in-MonoToStereo.is)
+    (λ c. rw c.in-StereoToMono.is)
+    (λ c. rw c.in-Resample.is)
+    (λ c. rw c.in-DcBlock.is)
+    (λ c. rw c.in-Biquad.is))

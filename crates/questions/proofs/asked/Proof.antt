@@ -14,14 +14,14 @@ use Rattle.questions.proofs.asked.Statement.{statement}
 use Rattle.questions.proofs.asked.Tie as tie
 
 module _ (q : Question) (shorter : ℕ) (w : Walk) (s : Stage) where
-  passes : (r : Walk) → w.legal ≡ true → stage_suits w.format-1 s.kind s.memory ≡ true → r ≡ further q shorter w s → r ≡ stepped q shorter w s
+  passes : (r : Walk) → w.legal ≡ true → stage_suits w.format s.kind s.memory ≡ true → r ≡ further q shorter w s → r ≡ stepped q shorter w s
   passes r h k e = e ∙ sym (step_suits q shorter w s h k)
 
-  stops : w.legal ≡ true → stage_suits w.format-1 s.kind s.memory ≡ false → record { legal = false; format = w.format-1; frames = 0; largest = 0; short = 0 } ≡ stepped q shorter w s
+  stops : w.legal ≡ true → stage_suits w.format s.kind s.memory ≡ false → record { legal = false; format = w.format; frames = 0; largest = 0; short = 0 } ≡ stepped q shorter w s
   unfolding illegal
   stops h k = sym (step_unsuited q shorter w s h k)
 
-  stopped : w.legal ≡ false → record { legal = false; format = w.format-1; frames = 0; largest = 0; short = 0 } ≡ stepped q shorter w s
+  stopped : w.legal ≡ false → record { legal = false; format = w.format; frames = 0; largest = 0; short = 0 } ≡ stepped q shorter w s
   unfolding illegal
   stopped h = sym (step_illegal q shorter w s h)
 
@@ -30,7 +30,7 @@ asked_spec = tie.close (tie.spec
     (λ c κs. search rules)
     (λ c κs.
     let s = c.before.before.before.before in
-    (s.requires, suits_bounded _ _ _ (sym c.before.stage_suits.ensures ∙ c.if-stage_suits.true)))
-    (λ c. passes _ _ _ _ _ c.before.before.before.if-walk.true (sym c.before.before.stage_suits.ensures ∙ c.before.if-stage_suits.true) c.onward.ensures)
-    (λ c. stops _ _ _ _ c.before.before.if-walk.true (sym c.before.stage_suits.ensures ∙ c.if-stage_suits.false))
+    (c.requires, suits_bounded _ _ _ (sym c.stage_suits.ensures ∙ c.if-stage_suits.true)))
+    (λ c. passes _ _ _ _ _ c.if-walk.true (sym c.stage_suits.ensures ∙ c.if-stage_suits.true) c.onward.ensures)
+    (λ c. stops _ _ _ _ c.if-walk.true (sym c.stage_suits.ensures ∙ c.if-stage_suits.false))
     (λ c. stopped _ _ _ _ c.if-walk.false))

@@ -21,5 +21,5 @@ module _ (f : PcmFormat) (size : ℕ) where
 pub block_frames_spec : {M : Type 1} → statement M
 block_frames_spec = tie.close (tie.spec
     (λ c κs. search rules) (λ c. search rules) (λ c. search rules) (λ c κs. search rules) (λ c. search rules)
-    (λ c. none _ _ _ (sym c.before.before.size_question-asked.ensures ∙ c.enum_told-1.given.1))
-    (λ c. some _ _ _ c.frame_bytes.ensures (sym c.before.before.before.size_question-asked.ensures ∙ c.before.enum_told-in-Accepted-1.given.1)))
+    (λ c. none _ _ _ (sym c.size_question-asked.ensures ∙ c.in-Refused.is))
+    (λ c. some _ _ _ c.frame_bytes.ensures (sym c.size_question-asked.ensures ∙ c.in-Accepted.is)))

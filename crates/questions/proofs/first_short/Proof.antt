@@ -22,5 +22,5 @@ module _ (shorter short room : ℕ) where
 pub first_short_spec : {M : Type 1} → statement M
 first_short_spec = tie.close (tie.spec
     (λ c. known _ _ _ c.if-short-ne0.true)
-    (λ c. held _ _ _ c.before.if-short-ne0.false c.if-room-shorter.true)
-    (λ c. not_held _ _ _ c.before.if-short-ne0.false c.if-room-shorter.false))
+    (λ c. held _ _ _ c.if-short-ne0.false c.if-room-shorter.true)
+    (λ c. not_held _ _ _ c.if-short-ne0.false c.if-room-shorter.false))

@@ -8,4 +8,4 @@ pub head_legal_spec : {M : Type 1} → statement M
 head_legal_spec = tie.close (tie.spec
     (λ c. rw (lt-leb _ 8 c.if-count-gt8.true))
     (λ c κs. search rules)
-    (λ c. rw (le-leb _ 8 c.before.if-count-gt8.false) c.allowed.ensures))
+    (λ c. rw (le-leb _ 8 c.if-count-gt8.false) c.allowed.ensures))

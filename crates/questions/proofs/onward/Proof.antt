@@ -36,10 +36,10 @@ onward_spec = tie.close (tie.spec
     (λ c.
     let d = c.before.before in
     let s = d.before.before.before in
-    record { fits = omega (arith, fits s.args.walk s.args.s s.args.question 0 _ _ _ d.before.format_after-format.ensures d.stage_due-d.ensures c.before.frame_bytes.ensures s.requires.0.0 s.requires.0.1 s.requires.1) })
+    record { fits = omega (arith, fits c.args.walk c.args.s c.args.question 0 _ _ _ c.format_after-format.ensures c.stage_due-d.ensures c.frame_bytes.ensures c.requires.0.0 c.requires.0.1 c.requires.1) })
     (λ c κs. search rules) (λ c κs. search rules)
     (λ c.
     let d = c.before.before.before.before in
     let s = d.before.before.before in
-    walk_is s.args.walk s.args.s s.args.question s.args.shorter _ _ _ d.before.format_after-format.ensures d.stage_due-d.ensures c.before.before.before.frame_bytes.ensures
-    _ _ c.before.larger_of.ensures c.first_short.ensures))
+    walk_is c.args.walk c.args.s c.args.question c.args.shorter _ _ _ c.format_after-format.ensures c.stage_due-d.ensures c.frame_bytes.ensures
+    _ _ c.larger_of.ensures c.first_short.ensures))

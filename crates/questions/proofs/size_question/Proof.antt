@@ -36,9 +36,9 @@ module _ (f : PcmFormat) (size frame : ℕ) (e : frame ≡ f.channels * 2) where
 pub size_question_spec : {M : Type 1} → statement M
 size_question_spec = tie.close (tie.spec
     (λ c κs. search rules)
-    (λ c. none _ _ _ c.before.frame_bytes-frame.ensures c.if-size-eq0.true)
+    (λ c. none _ _ _ c.frame_bytes-frame.ensures c.if-size-eq0.true)
     (λ c. search rules)
-    (λ c. ragged _ _ _ c.before.before.frame_bytes-frame.ensures c.before.if-size-eq0.false c.if-size-frame-ne0.true)
+    (λ c. ragged _ _ _ c.frame_bytes-frame.ensures c.if-size-eq0.false c.if-size-frame-ne0.true)
     (λ c. search rules)
-    (λ c. long _ _ _ c.before.before.before.frame_bytes-frame.ensures c.before.before.if-size-eq0.false c.before.if-size-frame-ne0.false c.if-size-frame-gt-MAX_FRAMES.true)
-    (λ c. fitting _ _ _ c.before.before.before.frame_bytes-frame.ensures c.before.before.if-size-eq0.false c.before.if-size-frame-ne0.false c.if-size-frame-gt-MAX_FRAMES.false))
+    (λ c. long _ _ _ c.frame_bytes-frame.ensures c.if-size-eq0.false c.if-size-frame-ne0.false c.if-size-frame-gt-MAX_FRAMES.true)
+    (λ c. fitting _ _ _ c.frame_bytes-frame.ensures c.if-size-eq0.false c.if-size-frame-ne0.false c.if-size-frame-gt-MAX_FRAMES.false))

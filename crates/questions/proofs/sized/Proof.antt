@@ -24,5 +24,5 @@ module _ (f : PcmFormat) (size : ℕ) (w : Walk) where
 pub sized_spec : {M : Type 1} → statement M
 sized_spec = tie.close (tie.spec
     (λ c κs. search rules)
-    (λ c. by_size _ _ _ _ c.before.if-walk.true c.size_question.ensures)
+    (λ c. by_size _ _ _ _ c.if-walk.true c.size_question.ensures)
     (λ c. not_legal _ _ _ c.if-walk.false))

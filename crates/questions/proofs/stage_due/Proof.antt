@@ -33,8 +33,8 @@ module _ (q : Question) (s : Stage) (n : ℕ) where
 pub stage_due_spec : {M : Type 1} → statement M
 stage_due_spec = tie.close (tie.spec
     (λ c κs. search rules) (λ c. search rules)
-    (λ c. not_reached _ _ _ c.before.enum_told-1.given.1 c.if-frames-eq0.true)
+    (λ c. not_reached _ _ _ c.in-Block.is c.if-frames-eq0.true)
     (λ c κs. search rules) (λ c. search rules) (λ c. search rules) (λ c κs. search rules)
-    (λ c. reached _ _ _ _ c.before.before.before.before.frames_wanted-wanted.ensures _ c.before.before.enum_told-1.given.1 c.before.if-frames-eq0.false c.frames_out.ensures)
-    (λ c. any-state _ _ _ _ c.before.before.frames_wanted-wanted.ensures c.enum_told-in-AnyState-1.given.1)
-    (λ c. at_end _ _ _ _ c.before.enum_told-in-Finish-1.given.1 c.frames_at_end-delivered.ensures))
+    (λ c. reached _ _ _ _ c.frames_wanted-wanted.ensures _ c.in-Block.is c.if-frames-eq0.false c.frames_out.ensures)
+    (λ c. any-state _ _ _ _ c.frames_wanted-wanted.ensures c.in-AnyState.is)
+    (λ c. at_end _ _ _ _ c.in-Finish.is c.frames_at_end-delivered.ensures))

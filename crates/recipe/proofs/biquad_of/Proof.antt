@@ -18,14 +18,14 @@ returns c =
     let c3 = c4.before in
     let c2 = c3.before in
     let c1 = c2.before in
-    let left = c1.before.before.args.left.now in
+    let left = c.args.left.now in
     let field : (k : ℕ) → k < 6 → word_at 4 (4 + 4 * k) left ≡ get_or (words 6 (drop 4 left)) k 0 = λ k h. sym (word_number 6 k 4 left h) in
     rw (
-      c1.get_u32.ensures ∙ field 0 (omega arith),
-      c2.get_u32-2.ensures ∙ field 1 (omega arith),
-      c3.get_u32-3.ensures ∙ field 2 (omega arith),
-      c4.get_u32-4.ensures ∙ field 3 (omega arith),
-      c5.get_u32-5.ensures ∙ field 4 (omega arith),
+      c.get_u32.ensures ∙ field 0 (omega arith),
+      c.get_u32-2.ensures ∙ field 1 (omega arith),
+      c.get_u32-3.ensures ∙ field 2 (omega arith),
+      c.get_u32-4.ensures ∙ field 3 (omega arith),
+      c.get_u32-5.ensures ∙ field 4 (omega arith),
       c.get_u32-6.ensures ∙ field 5 (omega arith),
     )
 

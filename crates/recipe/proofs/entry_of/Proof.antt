@@ -11,22 +11,22 @@ whole : (s : tie.Start) → Whole s.args.left.now
 whole s = whole_record _ s.requires
 
 -- the answer to whether the record is a note
-told : (c : tie.After-of_note) → c.of_note.result ≡ of_note (kind_at c.before.before.before.args.left.now)
-told c = c.of_note.ensures ∙ ap of_note c.before.get_u16-kind.ensures
+told : (c : tie.After-of_note) → c.of_note.result ≡ of_note (kind_at c.args.left.now)
+told c = c.of_note.ensures ∙ ap of_note c.get_u16-kind.ensures
 
-stage : (c : tie.Else-of_note) → WholeStage c.before.before.before.before.args.left.now
+stage : (c : tie.Else-of_note) → WholeStage c.args.left.now
 stage c = whole_stage _ (whole c.before.before.before.before) (sym (told c.before) ∙ c.if-of_note.false)
 
 returns : tie.Need-returns-then-of_note
 unfolding entry_at
-returns c = rw (sym (told c.before.before) ∙ c.before.if-of_note.true, c.get_u16-length.ensures)
+returns c = rw (sym (told c.before.before) ∙ c.if-of_note.true, c.get_u16-length.ensures)
 
 record-of-requires : tie.Need-record_of-requires
-record-of-requires c κs = let w = stage c in rw c.before.before.get_u16-kind.ensures (w.kind, w.there)
+record-of-requires c κs = let w = stage c in rw c.get_u16-kind.ensures (w.kind, w.there)
 
 returns-2 : tie.Need-returns
 unfolding entry_at
-returns-2 c = rw (sym (told c.before.before) ∙ c.before.if-of_note.false, c.record_of.ensures, c.before.before.before.get_u16-kind.ensures)
+returns-2 c = rw (sym (told c.before.before) ∙ c.if-of_note.false, c.record_of.ensures, c.get_u16-kind.ensures)
 
 pub entry_of_spec : {M : Type 1} → statement M
 entry_of_spec = tie.close (tie.spec

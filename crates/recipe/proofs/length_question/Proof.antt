@@ -11,13 +11,13 @@ use Rattle.recipe.proofs.Records.{few_fields}
 use Rattle.recipe.proofs.length_question.Statement.{statement}
 use Rattle.recipe.proofs.length_question.Tie as tie
 
-note : (c : tie.Then-of_note) → of_note c.before.before.args.kind ≡ true
-note c = sym c.before.of_note.ensures ∙ c.if-of_note.true
+note : (c : tie.Then-of_note) → of_note c.args.kind ≡ true
+note c = sym c.of_note.ensures ∙ c.if-of_note.true
 
-no_note : (c : tie.Else-of_note) → of_note c.before.before.args.kind ≡ false
-no_note c = sym c.before.of_note.ensures ∙ c.if-of_note.false
+no_note : (c : tie.Else-of_note) → of_note c.args.kind ≡ false
+no_note c = sym c.of_note.ensures ∙ c.if-of_note.false
 
-due : (c : tie.After-field_count) → 2 + 4 * c.field_count.result ≡ 2 + 4 * field_count c.before.before.before.args.kind
+due : (c : tie.After-field_count) → 2 + 4 * c.field_count.result ≡ 2 + 4 * field_count c.args.kind
 due c = ap (λ (n : ℕ). 2 + 4 * n) c.field_count.ensures
 
 returns : tie.Need-returns-then-length-gt66
@@ -37,8 +37,8 @@ length_question_spec = tie.close (tie.spec
     (λ c κs. search rules)
     returns
     returns-2
-    (λ c κs. no_note_stage c.before.before.args.kind c.before.before.requires (no_note c))
-    (λ c. omega (arith, due c, few_fields c.before.before.before.args.kind))
-    (λ c. omega (arith, due c, few_fields c.before.before.before.args.kind))
+    (λ c κs. no_note_stage c.args.kind c.requires (no_note c))
+    (λ c. omega (arith, due c, few_fields c.args.kind))
+    (λ c. omega (arith, due c, few_fields c.args.kind))
     returns-3
     returns-4)

@@ -22,20 +22,20 @@ four : (c : tie.Else-left-lt4) → leb 4 (length (left_of c.before.before)) ≡ 
 four c = le-leb 4 (length (left_of c.before.before)) c.if-left-lt4.false
 
 two : (c : tie.Else-length-lt2) → leb 2 (length_at (left_of c.before.before.before.before)) ≡ true
-two c = rw c.before.get_u16-length.ensures at (le-leb 2 c.before.get_u16-length.result c.if-length-lt2.false)
+two c = rw c.get_u16-length.ensures at (le-leb 2 c.get_u16-length.result c.if-length-lt2.false)
 
-kind-is : (c : tie.After-known) → c.before.get_u16-kind.result ≡ kind_at (left_of c.before.before.before.before.before.before)
-kind-is c = c.before.get_u16-kind.ensures
+kind-is : (c : tie.After-known) → c.get_u16-kind.result ≡ kind_at (left_of c.before.before.before.before.before.before)
+kind-is c = c.get_u16-kind.ensures
 
-is_known : (c : tie.Else-not-known) → known c.before.before.get_u16-kind.result ≡ true
-is_known c = sym c.before.known.ensures ∙ not-false _ c.if-not-known.false
+is_known : (c : tie.Else-not-known) → known c.get_u16-kind.result ≡ true
+is_known c = sym c.known.ensures ∙ not-false _ c.if-not-known.false
 
 told : (c : tie.Else-not-known) → known (kind_at (left_of c.before.before.before.before.before.before.before)) ≡ true
 told c = rw (kind-is c.before) at (is_known c)
 
 -- what the length's question comes to
 sized : (c : tie.After-length_question-sized) → let left = left_of c.before.before.before.before.before.before.before.before in c.length_question-sized.result ≡ length_verdict (kind_at left) (length_at left)
-sized c = c.length_question-sized.ensures ∙ ap₂ length_verdict (kind-is c.before.before) c.before.before.before.before.before.get_u16-length.ensures
+sized c = c.length_question-sized.ensures ∙ ap₂ length_verdict (kind-is c.before.before) c.get_u16-length.ensures
 
 returns : tie.Need-returns-then-left-lt4
 unfolding record_verdict
@@ -43,34 +43,34 @@ returns c = rw (lt-leb 4 (length (left_of c.before.before)) c.if-left-lt4.true)
 
 returns-2 : tie.Need-returns-then-length-lt2
 unfolding record_verdict
-returns-2 c = rw (four c.before.before, rw c.before.get_u16-length.ensures at (lt-leb 2 c.before.get_u16-length.result c.if-length-lt2.true))
+returns-2 c = rw (four c.before.before, rw c.get_u16-length.ensures at (lt-leb 2 c.get_u16-length.result c.if-length-lt2.true))
 
 returns-3 : tie.Need-returns-then-not-known
 unfolding record_verdict
 returns-3 c =
-    let k : known (kind_at (left_of c.before.before.before.before.before.before.before)) ≡ false = sym (ap known (kind-is c.before)) ∙ sym c.before.known.ensures ∙ not-true _ c.if-not-known.true in
+    let k : known (kind_at (left_of c.before.before.before.before.before.before.before)) ≡ false = sym (ap known (kind-is c.before)) ∙ sym c.known.ensures ∙ not-true _ c.if-not-known.true in
     rw (four c.before.before.before.before.before, two c.before.before.before, k)
 
 returns-4 : tie.Need-returns-in-Refused
 unfolding record_verdict
 returns-4 c =
-    let e = c.before.before.before in
-    let v = sym (sized e) ∙ c.before.sized-1.given.1 in
+    let e = c.before in
+    let v = sym (sized e) ∙ c.in-Refused.is in
     rw (four e.before.before.before.before.before.before, two e.before.before.before.before, told e.before, v)
 
 -- all but the last question answered yes
-but_last : (c : tie.In_default) → let left = left_of c.before.before.before.before.before.before.before.before.before.before in
+but_last : (c : tie.In_default) → let left = left_of c.before.before.before.before.before.before.before.before.before in
     record_verdict left ≡ ask (leb (2 + length_at left) (length left)) ShortRecord Accepted
 unfolding record_verdict
 but_last c =
-    let e = c.before.before in
-    let v = sym (sized e) ∙ c.enum_told-1.given.1 in
+    let e = c.before in
+    let v = sym (sized e) ∙ c.in_default.is in
     rw (four e.before.before.before.before.before.before, two e.before.before.before.before, told e.before, v)
 
 -- whether the whole record is there
-there : (c : tie.In_default) → let e = c.before.before.before.before.before.before.before in
-    leb (2 + e.get_u16-length.result) (length (left_of e.before.before.before)) ≡ leb (2 + length_at (left_of e.before.before.before)) (length (left_of e.before.before.before))
-there c = let e = c.before.before.before.before.before.before.before in ap (λ (n : ℕ). leb (2 + n) (length (left_of e.before.before.before))) e.get_u16-length.ensures
+there : (c : tie.In_default) → let e = c.before.before.before.before.before.before in
+    leb (2 + c.get_u16-length.result) (length (left_of e.before.before.before)) ≡ leb (2 + length_at (left_of e.before.before.before)) (length (left_of e.before.before.before))
+there c = let e = c.before.before.before.before.before.before in ap (λ (n : ℕ). leb (2 + n) (length (left_of e.before.before.before))) c.get_u16-length.ensures
 
 returns-5 : tie.Need-returns-then-not-whole
 returns-5 c = rw (but_last c.before, sym (there c.before) ∙ not-true _ c.if-not-whole.true)

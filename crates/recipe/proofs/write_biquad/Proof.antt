@@ -12,7 +12,7 @@ returns c =
     let c3 = c4.before.before.before.before in
     let c2 = c3.before.before.before.before in
     let c1 = c2.before.before.before.before in
-    c6.put_u32-6.ensures ∙ rw (c5.put_u32-5.ensures, c4.put_u32-4.ensures, c3.put_u32-3.ensures, c2.put_u32-2.ensures, c1.put_u32.ensures)
+    c.put_u32-6.ensures ∙ rw (c.put_u32-5.ensures, c.put_u32-4.ensures, c.put_u32-3.ensures, c.put_u32-2.ensures, c.put_u32.ensures)
 
 pub write_biquad_spec : {M : Type 1} → statement M
 write_biquad_spec = tie.close (tie.spec (λ c κs. search rules) (λ c κs. search rules) (λ c κs. search rules) (λ c κs. search rules) (λ c κs. search rules) (λ c κs. search rules) (λ c. search rules) returns)

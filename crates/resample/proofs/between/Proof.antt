@@ -13,17 +13,17 @@ returns : tie.Need-returns-then-i-width
 returns c =
     let g = c.before.before in
     let s = g.before.before in
-    let a = s.args in
+    let a = c.args in
     answered w16 c.interpolate.type_inv c.interpolate.ensures
-    ∙ ap₂ (λ (x y : ℤ). interpolated x y a.f) (read_back s.ranges.last ∙ sym (earlier_first a.input.now a.last a.i a.width c.if-i-width.true)) (answered w16 g.get_i16-b.type_inv g.get_i16-b.ensures)
+    ∙ ap₂ (λ (x y : ℤ). interpolated x y a.f) (read_back c.ranges.last ∙ sym (earlier_first a.input.now a.last a.i a.width c.if-i-width.true)) (answered w16 c.get_i16-b.type_inv c.get_i16-b.ensures)
 
 returns-2 : tie.Need-returns
 returns-2 c =
     let h = c.before in
     let g = h.before.before in
-    let a = g.args in
+    let a = c.args in
     answered w16 c.interpolate-2.type_inv c.interpolate-2.ensures
-    ∙ ap₂ (λ (x y : ℤ). interpolated x y a.f) (answered w16 h.get_i16.type_inv h.get_i16.ensures ∙ sym (earlier_inside a.input.now a.last a.i a.width h.if-i-width.false)) (answered w16 g.get_i16-b.type_inv g.get_i16-b.ensures)
+    ∙ ap₂ (λ (x y : ℤ). interpolated x y a.f) (answered w16 c.get_i16.type_inv c.get_i16.ensures ∙ sym (earlier_inside a.input.now a.last a.i a.width c.if-i-width.false)) (answered w16 c.get_i16-b.type_inv c.get_i16-b.ensures)
 
 pub between_spec : {M : Type 1} → statement M
 between_spec = tie.close (tie.spec (λ c κs. search rules) (λ c κs. search rules) returns (λ c κs. search rules) (λ c κs. search rules) returns-2)

@@ -26,11 +26,11 @@ use Rattle.resample.proofs.process.Tie as tie
 copy-front-requires : tie.Need-copy_front-requires
 copy-front-requires c κs =
     let s = c.before.before.before.before.before in
-    let a = s.args in
+    let a = c.args in
     let xs = frames_of a.channels a.input.now in
     let r : length a.input.now / (a.channels * 2) * (a.channels * 2) ≤ length a.out.now =
-    rw (resampled_equal a.resampler a.s xs (eq-eqb _ _ c.if-resampler.true), length_frames a.channels a.input.now) at s.requires.room in
-    omega (arith, r, div-add-mod' (length a.input.now) (a.channels * 2), s.requires.whole)
+    rw (resampled_equal a.resampler a.s xs (eq-eqb _ _ c.if-resampler.true), length_frames a.channels a.input.now) at c.requires.room in
+    omega (arith, r, div-add-mod' (length a.input.now) (a.channels * 2), c.requires.whole)
 
 returns : tie.Need-returns-then-resampler
 returns c =
@@ -38,27 +38,27 @@ returns c =
     let t = w.before.before in
     let known = t.before.before.before in
     let s = known.before in
-    let a = s.args in
+    let a = c.args in
     let l = a.input.now in
     let xs = frames_of a.channels l in
-    let e = eq-eqb _ _ t.if-resampler.true in
-    let b : Bytes l = all_by_index (λ (n : ℕ). n < 256) 0 l (λ i h. omega (arith, known.shared_slice_known-1.given i)) in
+    let e = eq-eqb _ _ c.if-resampler.true in
+    let b : Bytes l = all_by_index (λ (n : ℕ). n < 256) 0 l (λ i h. omega (arith, c.shared_slice_known-1.given i)) in
     record {
       frames_are = sym (ap length (resampled_equal a.resampler a.s xs e) ∙ length_frames a.channels l);
-      bytes_are = rw (resampled_equal a.resampler a.s xs e, bytes_frames a.channels l s.requires.whole b) w.copy_front.ensures;
+      bytes_are = rw (resampled_equal a.resampler a.s xs e, bytes_frames a.channels l c.requires.whole b) c.copy_front.ensures;
       state_is = sym (state_equal a.resampler a.s xs e);
     }
 
 -- unequal rates: the block's own frames and state
-unequal : (c : tie.Else-resampler) → let s = c.before.before.before.before in Ready s.args.channels s.args.resampler.in_r s.args.resampler.out_r
-    (carried_outputs s.args.resampler.in_r s.args.resampler.out_r s.args.s (frames_of s.args.channels s.args.input.now)) s.args.input.now s.args.out.now
+unequal : (c : tie.Else-resampler) → let s = c.before.before.before.before in Ready c.args.channels c.args.resampler.in_r c.args.resampler.out_r
+    (carried_outputs c.args.resampler.in_r c.args.resampler.out_r c.args.s (frames_of c.args.channels c.args.input.now)) c.args.input.now c.args.out.now
 unequal c =
     let s = c.before.before.before.before in
-    let a = s.args in
-    rw (resampled_unequal a.resampler a.s (frames_of a.channels a.input.now) (ne_eqb _ _ c.if-resampler.false)) at s.requires
+    let a = c.args in
+    rw (resampled_unequal a.resampler a.s (frames_of a.channels a.input.now) (ne_eqb _ _ c.if-resampler.false)) at c.requires
 
 two : (c : tie.Else-channels-eq1) → c.args.channels ≡ 2
-two c = let s = c.before.before.before.before.before in omega (arith, s.requires.channels.0, s.requires.channels.1, c.if-channels-eq1.false)
+two c = let s = c.before.before.before.before.before in omega (arith, c.requires.channels.0, c.requires.channels.1, c.if-channels-eq1.false)
 
 -- so what the block function of ch channels promises is what the stage does
 done : (r : LinearResampler) (s : ResamplerState) {channels ch : ℕ} (input : List ℕ) {before after : List ℕ} {d : Resampled} → eqb r.in_rate r.out_rate ≡ false → channels ≡ ch
@@ -72,11 +72,11 @@ process_spec = tie.close (tie.spec copy-front-requires (λ c. search rules) (λ 
     (λ c.
     let m = c.before.before in
     let t = m.before.before in
-    let a = t.args in
-    done a.resampler a.s a.input.now (ne_eqb _ _ t.if-resampler.false) t.if-channels-eq1.true m.resample_mono.ensures)
+    let a = c.args in
+    done a.resampler a.s a.input.now (ne_eqb _ _ c.if-resampler.false) c.if-channels-eq1.true c.resample_mono.ensures)
     (λ c κs. rw (two c.before) at (unequal c.before.before)) (λ c. search rules)
     (λ c.
     let m = c.before.before in
     let t = m.before.before in
-    let a = t.args in
-    done a.resampler a.s a.input.now (ne_eqb _ _ t.if-resampler.false) (two t) m.resample_stereo.ensures))
+    let a = c.args in
+    done a.resampler a.s a.input.now (ne_eqb _ _ c.if-resampler.false) (two t) c.resample_stereo.ensures))

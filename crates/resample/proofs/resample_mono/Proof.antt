@@ -21,41 +21,41 @@ use Rattle.resample.proofs.resample_mono.Tie as tie
 abbrev last_of : tie.Start → ℤ
 last_of s = to_z w16 (of_z w16 (get_or s.args.s.last 0 (pos 0)))
 
-same : (c : tie.After-run_mono-arg-2-1) → let s = c.before.before.before.before.before.before in (n : ℕ) → n < 1 → get_or s.args.s.last n (pos 0) ≡ get_or (last_of s ∷ []) n (pos 0)
-same c = let s = c.before.before.before.before.before.before in mono_same s.args.s.last (record { sfits = c.run_mono-arg-2-1.given })
+same : (c : tie.After-run_mono-arg-2-1) → let s = c.before.before.before.before.before.before in (n : ℕ) → n < 1 → get_or c.args.s.last n (pos 0) ≡ get_or (last_of s ∷ []) n (pos 0)
+same c = let s = c.before.before.before.before.before.before in mono_same c.args.s.last (record { sfits = c.run_mono-arg-2-1.given })
 
 run-mono-requires : tie.Need-run_mono-d-requires
 run-mono-requires c κs =
     let s = c.before.before.before.before.before.before in
-    let a = s.args in
-    rw (← c.first_position-num.ensures) at (loop_ready 1 a.in_r a.out_r a.s (last_of s ∷ []) a.input.now a.out.now s.requires (same c))
+    let a = c.args in
+    rw (← c.first_position-num.ensures) at (loop_ready 1 a.in_r a.out_r a.s (last_of s ∷ []) a.input.now a.out.now c.requires (same c))
 
-ran : (c : tie.After-run_mono-d) → let s = c.before.before.before.before.before.before.before in let a = s.args in
+ran : (c : tie.After-run_mono-d) → let s = c.before.before.before.before.before.before.before in let a = c.args in
     Looped a.in_r a.out_r (start a.out_r a.s.primed a.s.phase)
     (outputs_from a.in_r a.out_r (start a.out_r a.s.primed a.s.phase) ((last_of s ∷ []) ∷ frames_of 1 a.input.now)) a.out.now c.run_mono-d.new.out c.run_mono-d.result
 ran c = rw c.first_position-num.ensures at c.run_mono-d.ensures
 
 past-requires : tie.Need-past-phase-requires
 past-requires c κs =
-    let m = c.before.before.before in
+    let m = c.before.before.before.before in
     let p = m.before.before.before in
     let s = p.before.before.before.before in
-    let a = s.args in
-    past-ready 1 a.in_r a.out_r a.s (last_of s ∷ []) a.input.now a.out.now s.requires (same m.before) m.run_mono-d.new.out m.run_mono-d.result (ran m)
-    (rw p.first_position-num.ensures at p.first_position-num.type_inv)
+    let a = c.args in
+    past-ready 1 a.in_r a.out_r a.s (last_of s ∷ []) a.input.now a.out.now c.requires (same m.before) c.run_mono-d.new.out c.run_mono-d.result (ran m)
+    (rw c.first_position-num.ensures at c.first_position-num.type_inv)
 
 returns : tie.Need-returns
 returns c =
     let n = c.before in
-    let m = n.before.before.before in
+    let m = n.before.before.before.before in
     let s = m.before.before.before.before.before.before.before in
-    let a = s.args in
+    let a = c.args in
     let l = a.input.now in
-    let k = some_frame 1 a.in_r a.out_r a.s (last_of s ∷ []) l a.out.now s.requires (same m.before) in
-    let e : length l - 2 ≡ ((length l / 2 - 1) * 1 + 0) * 2 = omega (arith, k, s.requires.whole) in
-    block-done 1 a.in_r a.out_r a.s (last_of s ∷ []) l a.out.now s.requires (same m.before) m.run_mono-d.new.out m.run_mono-d.result (ran m)
-    (to_z w16 (of_z w16 n.get_i16-newest.result) ∷ pos 0 ∷ []) c.past-phase.result
-    (ap (λ (z : ℤ). z ∷ pos 0 ∷ []) (answered w16 n.get_i16-newest.type_inv n.get_i16-newest.ensures ∙ ap (sample_at l) e)) c.past-phase.ensures
+    let k = some_frame 1 a.in_r a.out_r a.s (last_of s ∷ []) l a.out.now c.requires (same m.before) in
+    let e : length l - 2 ≡ ((length l / 2 - 1) * 1 + 0) * 2 = omega (arith, k, c.requires.whole) in
+    block-done 1 a.in_r a.out_r a.s (last_of s ∷ []) l a.out.now c.requires (same m.before) c.run_mono-d.new.out c.run_mono-d.result (ran m)
+    (to_z w16 (of_z w16 c.get_i16-newest.result) ∷ pos 0 ∷ []) c.past-phase.result
+    (ap (λ (z : ℤ). z ∷ pos 0 ∷ []) (answered w16 c.get_i16-newest.type_inv c.get_i16-newest.ensures ∙ ap (sample_at l) e)) c.past-phase.ensures
 
 pub resample_mono_spec : {M : Type 1} → statement M
 resample_mono_spec = tie.close (tie.spec (λ c κs. search rules) (λ c. search rules) run-mono-requires (λ c. search rules) (λ c κs. search rules) past-requires (λ c. search rules) returns)

@@ -21,19 +21,19 @@ use Rattle.resample.proofs.resample_stereo.Tie as tie
 abbrev last_of : tie.Start → Frame
 last_of s = to_z w16 (of_z w16 (get_or s.args.s.last 0 (pos 0))) ∷ to_z w16 (of_z w16 (get_or s.args.s.last 1 (pos 0))) ∷ []
 
-same : (c : tie.After-run_stereo-arg-3-1) → let s = c.before.before.before.before.before.before.before in (n : ℕ) → n < 2 → get_or s.args.s.last n (pos 0) ≡ get_or (last_of s) n (pos 0)
+same : (c : tie.After-run_stereo-arg-3-1) → let s = c.before.before.before.before.before.before.before in (n : ℕ) → n < 2 → get_or c.args.s.last n (pos 0) ≡ get_or (last_of s) n (pos 0)
 same c =
     let s = c.before.before.before.before.before.before.before in
-    stereo_same s.args.s.last (record { sfits = c.run_stereo-arg-2-1.given }) (record { sfits = c.run_stereo-arg-3-1.given })
+    stereo_same c.args.s.last (record { sfits = c.run_stereo-arg-2-1.given }) (record { sfits = c.run_stereo-arg-3-1.given })
 
 run-stereo-requires : tie.Need-run_stereo-d-requires
 run-stereo-requires c κs =
     let p = c.before.before.before in
     let s = p.before.before.before.before in
-    let a = s.args in
-    rw (← p.first_position-num.ensures) at (loop_ready 2 a.in_r a.out_r a.s (last_of s) a.input.now a.out.now s.requires (same c))
+    let a = c.args in
+    rw (← c.first_position-num.ensures) at (loop_ready 2 a.in_r a.out_r a.s (last_of s) a.input.now a.out.now c.requires (same c))
 
-ran : (c : tie.After-run_stereo-d) → let s = c.before.before.before.before.before.before.before.before in let a = s.args in
+ran : (c : tie.After-run_stereo-d) → let s = c.before.before.before.before.before.before.before.before in let a = c.args in
     Looped a.in_r a.out_r (start a.out_r a.s.primed a.s.phase)
     (outputs_from a.in_r a.out_r (start a.out_r a.s.primed a.s.phase) (last_of s ∷ frames_of 2 a.input.now)) a.out.now c.run_stereo-d.new.out c.run_stereo-d.result
 ran c = rw c.first_position-num.ensures at c.run_stereo-d.ensures
@@ -43,9 +43,9 @@ past-requires c κs =
     let m = c.before.before.before.before in
     let p = m.before.before.before.before in
     let s = p.before.before.before.before in
-    let a = s.args in
-    past-ready 2 a.in_r a.out_r a.s (last_of s) a.input.now a.out.now s.requires (same m.before) m.run_stereo-d.new.out m.run_stereo-d.result (ran m)
-    (rw p.first_position-num.ensures at p.first_position-num.type_inv)
+    let a = c.args in
+    past-ready 2 a.in_r a.out_r a.s (last_of s) a.input.now a.out.now c.requires (same m.before) c.run_stereo-d.new.out c.run_stereo-d.result (ran m)
+    (rw c.first_position-num.ensures at c.first_position-num.type_inv)
 
 -- a block has the bytes of a frame
 four_bytes : (s : tie.Start) → 4 ≤ length s.args.input.now
@@ -57,14 +57,14 @@ returns c =
     let left = right.before in
     let m = left.before.before.before in
     let s = m.before.before.before.before.before.before.before.before in
-    let a = s.args in
+    let a = c.args in
     let l = a.input.now in
-    let k = some_frame 2 a.in_r a.out_r a.s (last_of s) l a.out.now s.requires (same m.before) in
-    let e : length l - 4 ≡ ((length l / 4 - 1) * 2 + 0) * 2 = omega (arith, k, s.requires.whole) in
-    let f : length l - 2 ≡ ((length l / 4 - 1) * 2 + 1) * 2 = omega (arith, k, s.requires.whole) in
-    block-done 2 a.in_r a.out_r a.s (last_of s) l a.out.now s.requires (same m.before) m.run_stereo-d.new.out m.run_stereo-d.result (ran m)
-    (to_z w16 (of_z w16 left.get_i16-left.result) ∷ to_z w16 (of_z w16 right.get_i16-right.result) ∷ []) c.past-phase.result
-    (ap₂ (λ (y z : ℤ). y ∷ z ∷ []) (answered w16 left.get_i16-left.type_inv left.get_i16-left.ensures ∙ ap (sample_at l) e) (answered w16 right.get_i16-right.type_inv right.get_i16-right.ensures ∙ ap (sample_at l) f)) c.past-phase.ensures
+    let k = some_frame 2 a.in_r a.out_r a.s (last_of s) l a.out.now c.requires (same m.before) in
+    let e : length l - 4 ≡ ((length l / 4 - 1) * 2 + 0) * 2 = omega (arith, k, c.requires.whole) in
+    let f : length l - 2 ≡ ((length l / 4 - 1) * 2 + 1) * 2 = omega (arith, k, c.requires.whole) in
+    block-done 2 a.in_r a.out_r a.s (last_of s) l a.out.now c.requires (same m.before) c.run_stereo-d.new.out c.run_stereo-d.result (ran m)
+    (to_z w16 (of_z w16 c.get_i16-left.result) ∷ to_z w16 (of_z w16 c.get_i16-right.result) ∷ []) c.past-phase.result
+    (ap₂ (λ (y z : ℤ). y ∷ z ∷ []) (answered w16 c.get_i16-left.type_inv c.get_i16-left.ensures ∙ ap (sample_at l) e) (answered w16 c.get_i16-right.type_inv c.get_i16-right.ensures ∙ ap (sample_at l) f)) c.past-phase.ensures
 
 pub resample_stereo_spec : {M : Type 1} → statement M
 resample_stereo_spec = tie.close (tie.spec (λ c κs. search rules) (λ c. search rules) (λ c. search rules) run-stereo-requires

@@ -35,40 +35,40 @@ ready : (s : tie.Start invariant-loop decreases-loop) → Ready 1 s.args.in_r s.
 ready s = rw (read_back s.ranges.last) s.requires
 
 due-turn : (c : tie.In-loop-at invariant-loop decreases-loop) → let s = c.before.before.before.before.before.before.before in
-    Turn 2 c.loop-at.k (length (mono_outputs s.args.in_r s.args.out_r s.args.num (last_of s) s.args.input.now)) (length c.loop-at.out)
-due-turn c = let s = c.before.before.before.before.before.before.before in turn 1 _ _ _ _ _ _ (ready s) c.loop-at.invariant s.well_formed.1.0.0 c.loop-at-test.true
+    Turn 2 c.loop-at.k (length (mono_outputs c.args.in_r c.args.out_r c.args.num (last_of s) c.args.input.now)) (length c.loop-at.out)
+due-turn c = let s = c.before.before.before.before.before.before.before in turn 1 _ _ _ _ _ _ (ready s) c.loop-at.invariant c.well_formed.1.0.0 c.loop-at-test.true
 
 advance-requires : tie.Need-advance-at-requires invariant-loop decreases-loop
 advance-requires c κs =
     let b = c.before.before.before.before.before in
     let s = b.before.before.before.before.before.before.before in
-    let step = b.new-step in
-    advance-ready 1 _ _ _ _ _ _ (ready s) b.loop-at.invariant step.result (omega (arith, s.well_formed.0.1)) b.loop-at-test.true step.ensures
+    let step = c.new-step in
+    advance-ready 1 _ _ _ _ _ _ (ready s) c.loop-at.invariant step.result (omega (arith, c.well_formed.0.1)) c.loop-at-test.true step.ensures
 
 loop-again : tie.Need-loop-at-preserved invariant-loop decreases-loop
 loop-again c =
     let b = c.before.before.before.before.before.before in
-    let l = b.loop-at in
-    let step = b.new-step in
+    let l = c.loop-at in
+    let step = c.new-step in
     let s = b.before.before.before.before.before.before.before in
-    let a = s.args in
+    let a = c.args in
     let r = ready s in
     let fs : List Frame = mono_outputs a.in_r a.out_r a.num (last_of s) a.input.now in
     let y : ℤ = interpolated (earlier_of a.input.now (last_of s) (l.at.frame * 2) 2) (sample_at a.input.now (l.at.frame * 2)) l.at.frac in
     let e : bytes_of (drop l.k fs) ≡ low_of y ∷ high_of y ∷ bytes_of (drop (suc l.k) fs) =
-    ap bytes_of (next-frame 1 _ _ _ _ _ _ r l.invariant b.loop-at-test.true
-    ∙ ap (λ (f : Frame). f ∷ drop (suc l.k) fs) (mono_frame (last_of s) a.input.now r.whole a.out_r (a.num + l.k * a.in_r) l.at l.invariant.place b.loop-at-test.true))
+    ap bytes_of (next-frame 1 _ _ _ _ _ _ r l.invariant c.loop-at-test.true
+    ∙ ap (λ (f : Frame). f ∷ drop (suc l.k) fs) (mono_frame (last_of s) a.input.now r.whole a.out_r (a.num + l.k * a.in_r) l.at l.invariant.place c.loop-at-test.true))
     ∙ bytes_mono y (drop (suc l.k) fs) in
     let t = due-turn b in
     let w = c.before.before.before in
-    progress-next 1 _ _ _ _ _ _ r l.invariant b.loop-at-test.true
+    progress-next 1 _ _ _ _ _ _ r l.invariant c.loop-at-test.true
     (at_sum a.out_r (a.num + l.k * a.in_r) a.in_r l.at step.result c.advance-at.result l.invariant.place step.ensures c.advance-at.ensures)
-    (writing_put (writing_as l.invariant.bytes e) w.put_i16.ensures (answered w16 w.between-y.type_inv w.between-y.ensures) (omega (arith, t.more)) r.room)
+    (writing_put (writing_as l.invariant.bytes e) c.put_i16.ensures (answered w16 c.between-y.type_inv c.between-y.ensures) (omega (arith, t.more)) r.room)
 
 returns : tie.Need-returns invariant-loop decreases-loop
 returns c =
     let s = c.before.before.before.before.before.before.before in
-    rw (read_back s.ranges.last) at (looped 1 _ _ _ _ _ _ (ready s) c.loop-at.invariant c.loop-at-test.false)
+    rw (read_back c.ranges.last) at (looped 1 _ _ _ _ _ _ (ready s) c.loop-at.invariant c.loop-at-test.false)
 
 pub run_mono_spec : {M : Type 1} → statement M
 run_mono_spec = tie.close (tie.spec invariant-loop decreases-loop

@@ -41,7 +41,7 @@ ready : (s : tie.Start invariant-loop decreases-loop) → Ready 2 s.args.in_r s.
 ready s = rw (read_back s.ranges.left, read_back s.ranges.right) s.requires
 
 due-turn : (c : tie.In-loop-at invariant-loop decreases-loop) → let s = c.before.before.before.before.before.before.before in Turn 4 c.loop-at.k (length (outputs-of s)) (length c.loop-at.out)
-due-turn c = let s = c.before.before.before.before.before.before.before in turn 2 _ _ _ _ _ _ (ready s) c.loop-at.invariant s.well_formed.1.0.0 c.loop-at-test.true
+due-turn c = let s = c.before.before.before.before.before.before.before in turn 2 _ _ _ _ _ _ (ready s) c.loop-at.invariant c.well_formed.1.0.0 c.loop-at-test.true
 
 -- the frame's first sample is written, and its second is next
 abbrev right-sample : tie.In-loop-at invariant-loop decreases-loop → ℤ
@@ -50,20 +50,20 @@ right-sample b =
     let l = b.loop-at in
     interpolated (earlier_of s.args.input.now (right_of s) (l.at.frame * 4 + 2) 4) (sample_at s.args.input.now (l.at.frame * 4 + 2)) l.at.frac
 
-half : (c : tie.After-put_i16 invariant-loop decreases-loop) → let b = c.before.before.before.before in let s = b.before.before.before.before.before.before.before in let l = b.loop-at in
-    Writing (written (bytes_of (outputs-of s)) s.args.out.now) (low_of (right-sample b) ∷ high_of (right-sample b) ∷ bytes_of (drop (suc l.k) (outputs-of s))) (length (outputs-of s) * 4) s.args.out.now c.put_i16.new.s (l.k * 4 + 2)
+half : (c : tie.After-put_i16 invariant-loop decreases-loop) → let b = c.before.before.before.before in let s = b.before.before.before.before.before.before.before in let l = c.loop-at in
+    Writing (written (bytes_of (outputs-of s)) c.args.out.now) (low_of (right-sample b) ∷ high_of (right-sample b) ∷ bytes_of (drop (suc l.k) (outputs-of s))) (length (outputs-of s) * 4) c.args.out.now c.put_i16.new.s (l.k * 4 + 2)
 half c =
     let b = c.before.before.before.before in
     let s = b.before.before.before.before.before.before.before in
-    let l = b.loop-at in
-    let a = s.args in
+    let l = c.loop-at in
+    let a = c.args in
     let r = ready s in
     let fs : List Frame = outputs-of s in
     let y : ℤ = interpolated (earlier_of a.input.now (left-of s) (l.at.frame * 4) 4) (sample_at a.input.now (l.at.frame * 4)) l.at.frac in
     let z : ℤ = right-sample b in
     let e : bytes_of (drop l.k fs) ≡ low_of y ∷ high_of y ∷ low_of z ∷ high_of z ∷ bytes_of (drop (suc l.k) fs) =
-    ap bytes_of (next-frame 2 _ _ _ _ _ _ r l.invariant b.loop-at-test.true
-    ∙ ap (λ (f : Frame). f ∷ drop (suc l.k) fs) (stereo_frame (left-of s) (right_of s) a.input.now r.whole a.out_r (a.num + l.k * a.in_r) l.at l.invariant.place b.loop-at-test.true))
+    ap bytes_of (next-frame 2 _ _ _ _ _ _ r l.invariant c.loop-at-test.true
+    ∙ ap (λ (f : Frame). f ∷ drop (suc l.k) fs) (stereo_frame (left-of s) (right_of s) a.input.now r.whole a.out_r (a.num + l.k * a.in_r) l.at l.invariant.place c.loop-at-test.true))
     ∙ bytes_stereo y z (drop (suc l.k) fs) in
     let t = due-turn b in
     let first = c.between-y in
@@ -74,36 +74,36 @@ put-i16-requires-2 c κs =
     let w = c.before.before.before in
     let b = w.before.before.before.before in
     let t = due-turn b in
-    omega (arith, t.more, t.fits, (half w).len, b.loop-at.invariant.bytes.len)
+    omega (arith, t.more, t.fits, (half w).len, c.loop-at.invariant.bytes.len)
 
 advance-requires : tie.Need-advance-at-requires invariant-loop decreases-loop
 advance-requires c κs =
     let b = c.before.before.before.before.before.before.before.before.before.before in
     let s = b.before.before.before.before.before.before.before in
-    let step = b.new-step in
-    advance-ready 2 _ _ _ _ _ _ (ready s) b.loop-at.invariant step.result (omega (arith, s.well_formed.0.1)) b.loop-at-test.true step.ensures
+    let step = c.new-step in
+    advance-ready 2 _ _ _ _ _ _ (ready s) c.loop-at.invariant step.result (omega (arith, c.well_formed.0.1)) c.loop-at-test.true step.ensures
 
 loop-again : tie.Need-loop-at-preserved invariant-loop decreases-loop
 loop-again c =
     let second = c.before.before.before in
     let w = second.before.before.before.before in
     let b = w.before.before.before.before in
-    let l = b.loop-at in
-    let step = b.new-step in
+    let l = c.loop-at in
+    let step = c.new-step in
     let s = b.before.before.before.before.before.before.before in
-    let a = s.args in
+    let a = c.args in
     let r = ready s in
     let t = due-turn b in
-    let z = w.between-z in
+    let z = c.between-z in
     let e : l.k * 4 + 2 + 2 ≡ l.k * 4 + 4 = omega arith in
-    progress-next 2 _ _ _ _ _ _ r l.invariant b.loop-at-test.true
+    progress-next 2 _ _ _ _ _ _ r l.invariant c.loop-at-test.true
     (at_sum a.out_r (a.num + l.k * a.in_r) a.in_r l.at step.result c.advance-at.result l.invariant.place step.ensures c.advance-at.ensures)
-    (rw e at (writing_put (half w) second.put_i16-in-loop-at.ensures (answered w16 z.type_inv z.ensures) (omega (arith, t.more)) r.room))
+    (rw e at (writing_put (half w) c.put_i16-in-loop-at.ensures (answered w16 z.type_inv z.ensures) (omega (arith, t.more)) r.room))
 
 returns : tie.Need-returns invariant-loop decreases-loop
 returns c =
     let s = c.before.before.before.before.before.before.before in
-    rw (read_back s.ranges.left, read_back s.ranges.right) at (looped 2 _ _ _ _ _ _ (ready s) c.loop-at.invariant c.loop-at-test.false)
+    rw (read_back c.ranges.left, read_back c.ranges.right) at (looped 2 _ _ _ _ _ _ (ready s) c.loop-at.invariant c.loop-at-test.false)
 
 pub run_stereo_spec : {M : Type 1} → statement M
 run_stereo_spec = tie.close (tie.spec invariant-loop decreases-loop
@@ -114,7 +114,7 @@ run_stereo_spec = tie.close (tie.spec invariant-loop decreases-loop
     (λ c κs. (omega arith, c.loop-at.invariant.place.parts.small))
     (λ c. omega arith)
     (λ c. omega arith)
-    (λ c κs. let b = c.before in (omega (arith, b.loop-at-test.true), b.loop-at.invariant.place.parts.small))
+    (λ c κs. let b = c.before in (omega (arith, c.loop-at-test.true), c.loop-at.invariant.place.parts.small))
     (λ c. let t = due-turn c.before.before.before in record { fits = omega (arith, t.more, t.fits, t.small) })
     (λ c κs. let t = due-turn c.before.before.before in omega (arith, t.more, t.fits))
     (λ c. let t = due-turn c.before.before.before.before.before.before.before in record { fits = omega (arith, t.more, t.fits, t.small) })

@@ -14,7 +14,7 @@ asked_bytes_spec = tie.close (tie.spec
     (λ c.
     let f = c.before in
     let a = f.before in
-    let h : f.asked_frames.result ≤ 8193 = omega (arith, f.asked_frames.ensures, asked_most a.args.frames) in
-    let k : c.frame_bytes.result ≤ 4 = omega (arith, c.frame_bytes.ensures, a.requires) in
+    let h : c.asked_frames.result ≤ 8193 = omega (arith, c.asked_frames.ensures, asked_most c.args.frames) in
+    let k : c.frame_bytes.result ≤ 4 = omega (arith, c.frame_bytes.ensures, c.requires) in
     record { fits = omega (arith, mul-le-mul h k) })
-    (λ c. ap₂ (λ (m n : ℕ). m * n) c.before.asked_frames.ensures c.frame_bytes.ensures))
+    (λ c. ap₂ (λ (m n : ℕ). m * n) c.asked_frames.ensures c.frame_bytes.ensures))

@@ -6,7 +6,7 @@ use Rattle.stage.proofs.format_after.Tie as tie
 pub format_after_spec : {M : Type 1} → statement M
 format_after_spec = tie.close (tie.spec
     (λ c. search rules) (λ c. search rules) (λ c. search rules) (λ c. search rules) (λ c. search rules) (λ c. search rules) (λ c. search rules)
-    (λ c. rw c.enum_told-in-MonoToStereo-1.given.1)
-    (λ c. rw c.enum_told-in-StereoToMono-1.given.1)
-    (λ c. rw c.before.kind-1.given.1)
+    (λ c. rw c.in-MonoToStereo.is)
+    (λ c. rw c.in-StereoToMono.is)
+    (λ c. rw c.in-Resample.is)
     (λ c. search rules) (λ c. search rules))

@@ -10,10 +10,10 @@ pub frames_out_spec : {M : Type 1} → statement M
 unfolding frames_out
 frames_out_spec = tie.close (tie.spec (λ c. search rules) (λ c. search rules) (λ c. search rules) (λ c. search rules)
     (λ c κs.
-    let s = c.before.before.before.before.before in
-    let r : Rates c.before.kind-1.given.0.0 = rw c.before.kind-1.given.1 at s.requires.1 in
-    (r.in_r.0, product_fits s.requires.0 r.out_r.1 r.in_r.1))
+    let s = c.before.before.before in
+    let r : Rates c.in-Resample.r = rw c.in-Resample.is at c.requires.1 in
+    (r.in_r.0, product_fits c.requires.0 r.out_r.1 r.in_r.1))
     (λ c. search rules) (λ c. search rules)
-    (λ c. rw c.enum_told-1.given.1) (λ c. rw c.enum_told-in-MonoToStereo-1.given.1) (λ c. rw c.enum_told-in-StereoToMono-1.given.1)
-    (λ c. rw c.before.before.kind-1.given.1 c.output_frames.ensures)
-    (λ c. rw c.enum_told-in-DcBlock-1.given.1) (λ c. rw c.enum_told-in-Biquad-1.given.1))
+    (λ c. rw c.in-Gain.is) (λ c. rw c.in-MonoToStereo.is) (λ c. rw c.in-StereoToMono.is)
+    (λ c. rw c.in-Resample.is c.output_frames.ensures)
+    (λ c. rw c.in-DcBlock.is) (λ c. rw c.in-Biquad.is))

@@ -8,4 +8,4 @@ use Rattle.stage.proofs.part_suits.Tie as tie
 pub part_suits_spec : {M : Type 1} → statement M
 part_suits_spec = tie.close (tie.spec
     (λ c. rw c.if-part-eq0.true)
-    (λ c. let h : 0 < c.before.args.part = omega arith in rw (lt-ltb _ _ h)))
+    (λ c. let h : 0 < c.args.part = omega arith in rw (lt-ltb _ _ h)))

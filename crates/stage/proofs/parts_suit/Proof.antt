@@ -21,24 +21,24 @@ returns : tie.Need-returns-then-part_suits-2
 returns c =
     let second = c.before in
     let first = second.before.before in
-    rw (← first.part_suits.ensures, second.before.if-part_suits.true, ← second.part_suits-then-part_suits.ensures, c.if-part_suits-2.true)
+    rw (← c.part_suits.ensures, c.if-part_suits.true, ← c.part_suits-then-part_suits.ensures, c.if-part_suits-2.true)
 
 returns-2 : tie.Need-returns-then-part_suits
 returns-2 c =
     let second = c.before in
     let first = second.before.before in
-    rw (← first.part_suits.ensures, second.before.if-part_suits.true, ← second.part_suits-then-part_suits.ensures, c.if-part_suits-2.false)
+    rw (← c.part_suits.ensures, c.if-part_suits.true, ← c.part_suits-then-part_suits.ensures, c.if-part_suits-2.false)
 
 returns-3 : tie.Need-returns
-returns-3 c = rw (← c.before.part_suits.ensures, c.if-part_suits.false)
+returns-3 c = rw (← c.part_suits.ensures, c.if-part_suits.false)
 
 pub parts_suit_spec : {M : Type 1} → statement M
 parts_suit_spec = tie.close (tie.spec (λ c κs. search rules) (λ c κs. search rules)
     (λ c.
     let first = c.before.before.before in
     let s = first.before in
-    record { fits = fits (small s.args.in_r s.args.input _ c.before.before.if-part_suits.true first.part_suits.ensures s.requires.0) s.requires.1 })
+    record { fits = fits (small c.args.in_r c.args.input _ c.if-part_suits.true c.part_suits.ensures c.requires.0) c.requires.1 })
     (λ c.
     let s = c.before.before.before.before in
-    record { fits = fits (small s.args.out_r s.args.output _ c.if-part_suits-2.true c.before.part_suits-then-part_suits.ensures s.requires.1) s.requires.0 })
+    record { fits = fits (small c.args.out_r c.args.output _ c.if-part_suits-2.true c.part_suits-then-part_suits.ensures c.requires.1) c.requires.0 })
     returns returns-2 returns-3)

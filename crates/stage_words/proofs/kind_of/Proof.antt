@@ -11,23 +11,23 @@ use Rattle.stage_words.proofs.kind_of.Tie as tie
 
 returns : tie.Need-returns-in-1
 unfolding kind_of
-returns c = rw (c.before.before.in-1.keys1, answered w32 c.signed.type_inv c.signed.ensures)
+returns c = rw (c.in-1.is, answered w32 c.signed.type_inv c.signed.ensures)
 
 returns-2 : tie.Need-returns-in-3
 unfolding kind_of
-returns-2 c = rw c.in-1.keys2
+returns-2 c = rw c.in-3.is
 
 returns-3 : tie.Need-returns-in-4
 unfolding kind_of
-returns-3 c = rw c.before.before.before.before.in-1.keys3
+returns-3 c = rw c.in-4.is
 
 returns-4 : tie.Need-returns-in-5
 unfolding kind_of
-returns-4 c = rw (c.before.before.in-1.keys4, c.Float-at.ensures)
+returns-4 c = rw (c.in-5.is, c.Float-at.ensures)
 
 returns-5 : tie.Need-returns-in-6
 unfolding kind_of
-returns-5 c = rw (c.before.in-1.keys5, c.biquad_of.ensures)
+returns-5 c = rw (c.in-6.is, c.biquad_of.ensures)
 
 returns-6 : tie.Need-returns-in_default
 returns-6 c = let r = c.in-1.rest in sym (other_kind _ _ r.0.0.0.0.1 r.0.0.0.1 r.0.0.1 r.0.1 r.1)

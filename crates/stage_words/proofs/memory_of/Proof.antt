@@ -6,4 +6,4 @@ use Rattle.stage_words.proofs.memory_of.Tie as tie
 pub memory_of_spec : {M : Type 1} → statement M
 memory_of_spec = tie.close (tie.spec
     (λ c κs. search rules) (λ c κs. search rules)
-    (λ c. rw (c.before.filter_of-filter.ensures, c.state_of-resampler.ensures)))
+    (λ c. rw (c.filter_of-filter.ensures, c.state_of-resampler.ensures)))

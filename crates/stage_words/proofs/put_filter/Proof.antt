@@ -12,8 +12,8 @@ returns c =
     let c3 = c4.before.before.before.before in
     let c2 = c3.before.before.before.before in
     let c1 = c2.before.before.before.before in (
-      c4.put_pair-4.ensures.0 ∙ rw (c3.put_pair-3.ensures.0, c2.put_pair-2.ensures.0, c1.put_pair.ensures.0),
-      record { x1 = c1.put_pair.ensures.1; x2 = c2.put_pair-2.ensures.1; y1 = c3.put_pair-3.ensures.1; y2 = c4.put_pair-4.ensures.1 },
+      c.put_pair-4.ensures.0 ∙ rw (c.put_pair-3.ensures.0, c.put_pair-2.ensures.0, c.put_pair.ensures.0),
+      record { x1 = c.put_pair.ensures.1; x2 = c.put_pair-2.ensures.1; y1 = c.put_pair-3.ensures.1; y2 = c.put_pair-4.ensures.1 },
     )
 
 pub put_filter_spec : {M : Type 1} → statement M

@@ -10,7 +10,7 @@ unfolding memory_words filter_words
 returns c =
     let s = c.before.before in
     let f = s.before.before.before.before in
-    (s.put_state.ensures.0 ∙ rw f.put_filter.ensures.0, f.put_filter.ensures.1, s.put_state.ensures.1)
+    (c.put_state.ensures.0 ∙ rw c.put_filter.ensures.0, c.put_filter.ensures.1, c.put_state.ensures.1)
 
 pub put_memory_spec : {M : Type 1} → statement M
 put_memory_spec = tie.close (tie.spec

@@ -8,8 +8,8 @@ use Rattle.stage_words.proofs.put_pair.Tie as tie
 
 returns : tie.Need-returns
 returns c =
-    let n : length c.before.before.before.args.p ≡ 2 = search rules in
-    (rw (add-one, c.before.float_bits.ensures.0, c.float_bits-2.ensures.0), record { places = n; left = c.before.float_bits.ensures.1; right = c.float_bits-2.ensures.1 })
+    let n : length c.args.p ≡ 2 = search rules in
+    (rw (add-one, c.float_bits.ensures.0, c.float_bits-2.ensures.0), record { places = n; left = c.float_bits.ensures.1; right = c.float_bits-2.ensures.1 })
 
 pub put_pair_spec : {M : Type 1} → statement M
 put_pair_spec = tie.close (tie.spec

@@ -11,7 +11,7 @@ use Rattle.stage_words.proofs.put_settings.Tie as tie
 
 returns : tie.Need-returns
 returns c =
-    let w = c.before.before.args.w.now in
+    let w = c.args.w.now in
     let e = c.setting_words-v.ensures in
     (seven c.setting_words-v.result w (ap length e.0 ∙ length_settings _) ∙ ap (sets w 0) e.0, e.1)
 

@@ -16,13 +16,13 @@ unfolding words_of_stage
 returns c =
     let s = c.before.before in
     let f = s.before.before.before.before in
-    let a = f.before.before.before.before.args in
-    let w = a.w-1.now in
+    let a = c.args in
+    let w = a.w.now in
     let k = setting_words a.s.kind in
-    let m = memory_words a.s.memory-1 in
+    let m = memory_words a.s.memory in
     let e : 0 + length k ≡ 7 = omega (arith, length_settings a.s.kind) in (
-      s.put_memory.ensures.0 ∙ rw f.put_settings.ensures.0 (sym (sets_append k m w 0 ∙ ap (λ (n : ℕ). sets (sets w 0 k) n m) e)),
-      record { kind = f.put_settings.ensures.1; filter = s.put_memory.ensures.1; last = s.put_memory.ensures.2 },
+      c.put_memory.ensures.0 ∙ rw c.put_settings.ensures.0 (sym (sets_append k m w 0 ∙ ap (λ (n : ℕ). sets (sets w 0 k) n m) e)),
+      record { kind = c.put_settings.ensures.1; filter = c.put_memory.ensures.1; last = c.put_memory.ensures.2 },
     )
 
 pub put_stage_spec : {M : Type 1} → statement M

@@ -13,16 +13,16 @@ use Rattle.stage_words.proofs.put_state.Statement.{statement}
 use Rattle.stage_words.proofs.put_state.Tie as tie
 
 -- both samples, and their bits
-left-fits : (c : tie.After-right-1) → SFits w16 (get_or c.before.before.before.before.args.s.last-1 0 (pos 0))
-left-fits c = record { sfits = c.before.left-1.given }
+left-fits : (c : tie.After-right-1) → SFits w16 (get_or c.args.s.last 0 (pos 0))
+left-fits c = record { sfits = c.left.given }
 
-right-fits : (c : tie.After-right-1) → SFits w16 (get_or c.before.before.before.before.args.s.last-1 1 (pos 0))
-right-fits c = record { sfits = c.right-1.given }
+right-fits : (c : tie.After-right-1) → SFits w16 (get_or c.args.s.last 1 (pos 0))
+right-fits c = record { sfits = c.right.given }
 
-left-bits : (c : tie.After-sample_bits) → c.sample_bits.result ≡ of_z w16 (get_or c.before.before.before.before.before.args.s.last-1 0 (pos 0))
+left-bits : (c : tie.After-sample_bits) → c.sample_bits.result ≡ of_z w16 (get_or c.args.s.last 0 (pos 0))
 left-bits c = c.sample_bits.ensures ∙ ap (of_z w16) (read_back (left-fits c.before))
 
-right-bits : (c : tie.After-sample_bits-2) → c.sample_bits-2.result ≡ of_z w16 (get_or c.before.before.before.before.before.before.args.s.last-1 1 (pos 0))
+right-bits : (c : tie.After-sample_bits-2) → c.sample_bits-2.result ≡ of_z w16 (get_or c.args.s.last 1 (pos 0))
 right-bits c = c.sample_bits-2.ensures ∙ ap (of_z w16) (read_back (right-fits c.before.before))
 
 mul-w : tie.Need-overflow_mul-w
@@ -36,7 +36,7 @@ unfolding state_words
 returns c =
     let b = c.before.before in
     let s = b.before.before.before.before.before.before in
-    let two : length s.args.s.last-1 ≡ 2 = search rules in
+    let two : length c.args.s.last ≡ 2 = search rules in
     (rw (left-bits b.before, right-bits b, c.flag.ensures), record { places = two; left = left-fits b.before.before; right = right-fits b.before.before })
 
 pub put_state_spec : {M : Type 1} → statement M

@@ -10,10 +10,10 @@ use Rattle.stage_words.proofs.sample_of.Statement.{statement}
 use Rattle.stage_words.proofs.sample_of.Tie as tie
 
 sub-result-2 : tie.Need-overflow_sub-result-2
-sub-result-2 c = let n = c.before.args.n in subst (SFits w16) (sym (upper_half n c.if-n-lt32768.false c.before.requires)) (sfits_to_z (record { fits = c.before.requires }))
+sub-result-2 c = let n = c.args.n in subst (SFits w16) (sym (upper_half n c.if-n-lt32768.false c.requires)) (sfits_to_z (record { fits = c.requires }))
 
 returns-2 : tie.Need-returns
-returns-2 c = settled w16 (upper_half c.before.args.n c.if-n-lt32768.false c.before.requires) (sfits_to_z (record { fits = c.before.requires }))
+returns-2 c = settled w16 (upper_half c.args.n c.if-n-lt32768.false c.requires) (sfits_to_z (record { fits = c.requires }))
 
 pub sample_of_spec : {M : Type 1} → statement M
 sample_of_spec = tie.close (tie.spec

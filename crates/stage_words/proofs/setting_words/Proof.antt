@@ -10,29 +10,29 @@ use Rattle.stage_words.proofs.setting_words.Tie as tie
 returns : tie.Need-returns-in-Gain
 unfolding setting_words
 returns c =
-    let q = c.before.before.before.kind-1.given.0.0.q15 in
+    let q = c.in-Gain.g.q15 in
     let e : to_z w32 (of_z w32 q) ≡ q = search rules in
-    rw (c.before.before.before.kind-1.given.1, c.gain_bits.ensures.0, e) (refl, rw e at c.gain_bits.ensures.1)
+    rw (c.in-Gain.is, c.gain_bits.ensures.0, e) (refl, rw e at c.gain_bits.ensures.1)
 
 returns-2 : tie.Need-returns-in-MonoToStereo
 unfolding setting_words
-returns-2 c = rw c.enum_told-1.given.1 (refl, tt)
+returns-2 c = rw c.in-MonoToStereo.is (refl, tt)
 
 returns-3 : tie.Need-returns-in-StereoToMono
 unfolding setting_words
-returns-3 c = rw c.enum_told-in-StereoToMono-1.given.1 (refl, tt)
+returns-3 c = rw c.in-StereoToMono.is (refl, tt)
 
 returns-4 : tie.Need-returns-in-Resample
 unfolding setting_words
-returns-4 c = rw c.before.before.before.kind-in-Resample-1.given.1 (refl, tt)
+returns-4 c = rw c.in-Resample.is (refl, tt)
 
 returns-5 : tie.Need-returns-in-DcBlock
 unfolding setting_words
-returns-5 c = rw (c.before.before.kind-in-DcBlock-1.given.1, c.float_bits.ensures.0) (refl, c.float_bits.ensures.1)
+returns-5 c = rw (c.in-DcBlock.is, c.float_bits.ensures.0) (refl, c.float_bits.ensures.1)
 
 returns-6 : tie.Need-returns-in-Biquad
 unfolding setting_words
-returns-6 c = rw c.before.before.kind-in-Biquad-1.given.1 (refl, tt)
+returns-6 c = rw c.in-Biquad.is (refl, tt)
 
 pub setting_words_spec : {M : Type 1} → statement M
 setting_words_spec = tie.close (tie.spec

@@ -12,12 +12,12 @@ unfolding state_of
 returns c =
     let b = c.before.before in
     let a = b.before in
-    rw (answered w16 a.sample_of.type_inv a.sample_of.ensures, answered w16 b.sample_of-2.type_inv b.sample_of-2.ensures)
+    rw (answered w16 c.sample_of.type_inv c.sample_of.ensures, answered w16 c.sample_of-2.type_inv c.sample_of-2.ensures)
 
 pub state_of_spec : {M : Type 1} → statement M
 state_of_spec = tie.close (tie.spec
     (λ c. search rules) (λ c κs. search rules)
-    (λ c κs. omega (arith, c.before.shared_slice_known-2-1.given 15))
+    (λ c κs. omega (arith, c.shared_slice_known-2-1.given 15))
     (λ c. search rules)
     (λ c. omega (arith, c.shared_slice_known-3-1.given 16))
     (λ c. search rules)

@@ -8,12 +8,12 @@ use Rattle.turns.proofs.mono_turn.Tie as tie
 
 pub mono_turn_spec : {M : Type 1} → statement M
 mono_turn_spec = tie.close (tie.spec
-    (λ c κs. even_reads c.before.before.before.before.before.requires c.before.if-i-eq0.true)
-    (λ c κs. even_asks c.before.before.before.before.before.before.before.requires c.before.before.before.if-i-eq0.true _ c.before.even_source.ensures)
+    (λ c κs. even_reads c.requires c.if-i-eq0.true)
+    (λ c κs. even_asks c.requires c.if-i-eq0.true _ c.even_source.ensures)
     (λ c. search rules) (λ c. search rules)
-    (λ c. even_does c.before.before.before.before.before.before.if-i-eq0.true _ c.before.before.before.before.even_source.ensures c.before.before.stereo_to_mono.ensures)
-    (λ c. odd_reads c.before.before.before.before.requires c.if-i-eq0.false)
-    (λ c. sym (length-take-le _ _ (odd_reads c.before.before.before.before.before.requires c.before.if-i-eq0.false)))
-    (λ c κs. odd_asks c.before.before.before.before.before.before.requires c.before.before.if-i-eq0.false)
+    (λ c. even_does c.if-i-eq0.true _ c.even_source.ensures c.stereo_to_mono.ensures)
+    (λ c. odd_reads c.requires c.if-i-eq0.false)
+    (λ c. sym (length-take-le _ _ (odd_reads c.requires c.if-i-eq0.false)))
+    (λ c κs. odd_asks c.requires c.if-i-eq0.false)
     (λ c. search rules) (λ c. search rules)
-    (λ c. odd_does c.before.before.before.before.before.if-i-eq0.false c.before.before.stereo_to_mono-2.ensures))
+    (λ c. odd_does c.if-i-eq0.false c.stereo_to_mono-2.ensures))

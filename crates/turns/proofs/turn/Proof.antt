@@ -25,45 +25,45 @@ either_half i m a b h = go (eqb (i % 2) 0) h
 pub turn_spec : {M : Type 1} → statement M
 turn_spec = tie.close (tie.spec
     (λ c. search rules) (λ c. search rules)
-    (λ c κs. let t = c.before.before.before in let s = start t.before.before in
-    gain_turn_asks s.args.format s.args.s s.pre _ t.kind-1.given.1)
+    (λ c κs. let t = c.before.before in let s = start t.before in
+    gain_turn_asks s.args.format s.args.s s.requires _ c.in-Gain.is)
     (λ c. search rules)
-    (λ c κs. let t = c.before.before in let s = start t.before.before in
-    stereo_turn_asks s.args.format s.args.s s.pre t.enum_told-1.given.1)
-    (λ c. let t = c.before.before.before.before.before.before.before in let s = start t.before.before in
+    (λ c κs. let t = c.before.before in let s = start t.before in
+    stereo_turn_asks s.args.format s.args.s s.requires c.in-MonoToStereo.is)
+    (λ c. let t = c.before.before.before.before.before.before.before in let s = start t.before in
     ⊎_elim (λ l. record { fits = omega (arith, l, s.good) }) (λ l. record { fits = omega (arith, l, s.good) })
-    (either_half s.args.i _ s.args.a.now s.args.b.now (stereo_long s.args.format s.args.s s.pre t.enum_told-1.given.1)))
+    (either_half s.args.i _ s.args.a.now s.args.b.now (stereo_long s.args.format s.args.s s.requires c.in-MonoToStereo.is)))
     (λ c. search rules)
-    (λ c κs. let t = c.before.before in let s = start t.before.before in
-    mono_turn_asks s.args.format s.args.s s.pre t.enum_told-in-StereoToMono-1.given.1)
+    (λ c κs. let t = c.before.before in let s = start t.before in
+    mono_turn_asks s.args.format s.args.s s.requires c.in-StereoToMono.is)
     (λ c. search rules) (λ c κs. search rules)
-    (λ c κs. let m = c.before.before in let t = m.before.before in let s = start t.before.before in
-    resample-turn-asks s.args.format s.args.s s.pre _ _ t.kind-in-Resample-1.given.1 m.held_samples-held.ensures.0 m.held_samples-held.ensures.1)
+    (λ c κs. let m = c.before.before in let t = m.before in let s = start t.before in
+    resample-turn-asks s.args.format s.args.s s.requires _ _ c.in-Resample.is c.held_samples-held.ensures.0 c.held_samples-held.ensures.1)
     (λ c. search rules)
-    (λ c. let d = c.before.before.before.before.before.before in let m = d.before.before.before in let t = m.before.before in let s = start t.before.before in
+    (λ c. let d = c.before.before.before.before.before.before in let m = d.before.before.before in let t = m.before in let s = start t.before in
     ⊎_elim (λ l. record { fits = omega (arith, l, s.good) }) (λ l. record { fits = omega (arith, l, s.good) })
-    (either_half s.args.i _ s.args.a.now s.args.b.now (resample-long s.args.format s.args.s s.pre _ _ t.kind-in-Resample-1.given.1 m.held_samples-held.ensures.0 m.held_samples-held.ensures.1 d.resample_turn-t.result _ d.resample_turn-t.ensures)))
+    (either_half s.args.i _ s.args.a.now s.args.b.now (resample-long s.args.format s.args.s s.requires _ _ c.in-Resample.is c.held_samples-held.ensures.0 c.held_samples-held.ensures.1 c.resample_turn-t.result _ c.resample_turn-t.ensures)))
     (λ c. search rules)
-    (λ c κs. let t = c.before.before.before in let s = start t.before.before in
-    dc_turn_asks s.args.format s.args.s s.pre _ t.kind-in-DcBlock-1.given.1)
+    (λ c κs. let t = c.before.before in let s = start t.before in
+    dc_turn_asks s.args.format s.args.s s.requires _ c.in-DcBlock.is)
     (λ c. search rules)
-    (λ c κs. let t = c.before.before.before in let s = start t.before.before in
-    biquad_turn_asks s.args.format s.args.s s.pre _ t.kind-in-Biquad-1.given.1)
+    (λ c κs. let t = c.before.before in let s = start t.before in
+    biquad_turn_asks s.args.format s.args.s s.requires _ c.in-Biquad.is)
     (λ c. search rules) (λ c. search rules)
-    (λ c. let d = c.before.before.before.before in let t = d.before.before.before.before in let s = start t.before.before in
-    gain_turned s.args.format s.args.s s.pre _ _ _ t.kind-1.given.1 d.gain_turn-clipped.ensures)
+    (λ c. let d = c.before.before.before.before in let t = d.before.before.before in let s = start t.before in
+    gain_turned s.args.format s.args.s s.requires _ _ _ c.in-Gain.is c.gain_turn-clipped.ensures)
     (λ c. search rules) (λ c. search rules)
-    (λ c. let d = c.before.before.before.before in let t = d.before.before.before in let s = start t.before.before in
-    stereo_turned s.args.format s.args.s s.pre _ t.enum_told-1.given.1 d.stereo_turn.ensures)
+    (λ c. let d = c.before.before.before.before in let t = d.before.before.before in let s = start t.before in
+    stereo_turned s.args.format s.args.s s.requires _ c.in-MonoToStereo.is c.stereo_turn.ensures)
     (λ c. search rules) (λ c. search rules)
-    (λ c. let d = c.before.before.before.before in let t = d.before.before.before in let s = start t.before.before in
-    mono_turned s.args.format s.args.s s.pre _ t.enum_told-in-StereoToMono-1.given.1 d.mono_turn.ensures)
+    (λ c. let d = c.before.before.before.before in let t = d.before.before.before in let s = start t.before in
+    mono_turned s.args.format s.args.s s.requires _ c.in-StereoToMono.is c.mono_turn.ensures)
     (λ c. search rules) (λ c. search rules)
-    (λ c. let d = c.before.before.before.before.before.before in let m = d.before.before.before in let t = m.before.before in let s = start t.before.before in
-    resample-turned s.args.format s.args.s s.pre _ _ t.kind-in-Resample-1.given.1 m.held_samples-held.ensures.0 m.held_samples-held.ensures.1 d.resample_turn-t.result _ d.resample_turn-t.ensures)
+    (λ c. let d = c.before.before.before.before.before.before in let m = d.before.before.before in let t = m.before in let s = start t.before in
+    resample-turned s.args.format s.args.s s.requires _ _ c.in-Resample.is c.held_samples-held.ensures.0 c.held_samples-held.ensures.1 c.resample_turn-t.result _ c.resample_turn-t.ensures)
     (λ c. search rules) (λ c. search rules)
-    (λ c. let d = c.before.before.before.before.before in let t = d.before.before.before.before in let s = start t.before.before in
-    dc_turned s.args.format s.args.s s.pre _ _ _ t.kind-in-DcBlock-1.given.1 d.dc_turn-t.ensures)
+    (λ c. let d = c.before.before.before.before.before in let t = d.before.before.before in let s = start t.before in
+    dc_turned s.args.format s.args.s s.requires _ _ _ c.in-DcBlock.is c.dc_turn-t.ensures)
     (λ c. search rules) (λ c. search rules)
-    (λ c. let d = c.before.before.before.before.before in let t = d.before.before.before.before in let s = start t.before.before in
-    biquad_turned s.args.format s.args.s s.pre _ _ _ t.kind-in-Biquad-1.given.1 d.biquad_turn-t.ensures))
+    (λ c. let d = c.before.before.before.before.before in let t = d.before.before.before in let s = start t.before in
+    biquad_turned s.args.format s.args.s s.requires _ _ _ c.in-Biquad.is c.biquad_turn-t.ensures))

@@ -15,9 +15,9 @@ returns c =
     let d = e.before in
     let u = d.before.before in
     let f = u.before in
-    let a = f.before.before.before.args in
-    p.put_counters.ensures
-    ∙ ap₂ (λ (x y : ℕ). sets a.words-1.now 3 (counter_words x y)) (u.count_up-blocks.ensures ∙ ap counted_up f.counter_at.ensures) (e.count_empty-empty_blocks.ensures ∙ ap (counted_if a.len) d.counter_at-2.ensures)
+    let a = c.args in
+    c.put_counters.ensures
+    ∙ ap₂ (λ (x y : ℕ). sets a.words.now 3 (counter_words x y)) (c.count_up-blocks.ensures ∙ ap counted_up c.counter_at.ensures) (c.count_empty-empty_blocks.ensures ∙ ap (counted_if a.len) c.counter_at-2.ensures)
 
 pub count_block_spec : {M : Type 1} → statement M
 count_block_spec = tie.close (tie.spec

@@ -25,9 +25,9 @@ module _ (w : List ℕ) where
 pub legal_head_spec : {M : Type 1} → statement M
 legal_head_spec = tie.close (tie.spec
     (λ c κs. search rules)
-    (λ c κs. stands_long _ (sym c.before.stand.ensures ∙ c.if-stand.true))
-    (λ c κs. stands_long _ (sym c.before.before.stand.ensures ∙ c.before.if-stand.true))
+    (λ c κs. stands_long _ (sym c.stand.ensures ∙ c.if-stand.true))
+    (λ c κs. stands_long _ (sym c.stand.ensures ∙ c.if-stand.true))
     (λ c κs. search rules)
     (λ c. let n = c.before in let f = n.before in let t = f.before in
-    c.head_legal.ensures ∙ stood _ _ _ (sym t.before.stand.ensures ∙ t.if-stand.true) f.format_of-own.ensures n.count_of.ensures)
-    (λ c. not_stood _ (sym c.before.stand.ensures ∙ c.if-stand.false)))
+    c.head_legal.ensures ∙ stood _ _ _ (sym c.stand.ensures ∙ c.if-stand.true) c.format_of-own.ensures c.count_of.ensures)
+    (λ c. not_stood _ (sym c.stand.ensures ∙ c.if-stand.false)))

@@ -42,13 +42,13 @@ module _ (c : tie.After-slice_known-3-1 invariant-loop decreases-loop) where
   s = c.before.before.before.before
 
   takes : Accepts (chain_at s.args.words.now) s.args.sound.now s.args.a.now s.args.b.now
-  takes = subst (λ (d : Pipeline). Accepts d s.args.sound.now s.args.a.now s.args.b.now) (stands_chain s.args.words.now s.pre.0) s.pre.1
+  takes = subst (λ (d : Pipeline). Accepts d s.args.sound.now s.args.a.now s.args.b.now) (stands_chain s.args.words.now s.requires.0) s.requires.1
 
   bytes : Bytes s.args.sound.now
-  bytes = all_by_index (λ (x : ℕ). x < 256) 0 s.args.sound.now (λ i h. omega (arith, c.before.before.shared_slice_known-1.given i))
+  bytes = all_by_index (λ (x : ℕ). x < 256) 0 s.args.sound.now (λ i h. omega (arith, c.shared_slice_known-1.given i))
 
   long : 152 ≤ length s.args.words.now
-  long = stands_long s.args.words.now s.pre.0
+  long = stands_long s.args.words.now s.requires.0
 
 -- ---- where the loop begins
 module _ (c : tie.After-slice_known-4-1 invariant-loop decreases-loop) where
@@ -69,8 +69,8 @@ loop-holds c =
     let k = known c in
     let a = (s k).args in
     record {
-      plays = plays_begin a.words-1.now a.sound.now a.a-1.now a.b-1.now _ _ _ (takes k) (bytes k) (numbered c).count_of-count.ensures (formed c).format_of-own.ensures (copied c).copy_unstaged.ensures _ refl;
-      moved = moved_none a.words-1.now;
+      plays = plays_begin a.words.now a.sound.now a.a.now a.b.now _ _ _ (takes k) (bytes k) (numbered c).count_of-count.ensures (formed c).format_of-own.ensures (copied c).copy_unstaged.ensures _ refl;
+      moved = moved_none a.words.now;
       used = (numbered c).count_of-count.ensures;
       long = long k;
     }
@@ -83,16 +83,16 @@ loop-again c =
     let m = t.before.before.before in
     let k = m.before.before in
     let il = k.before.before in
-    let v = il.before.loop-i.invariant in
-    let q = p.put_held_at.ensures in
-    let w = il.before.loop-i.words in
-    let i = il.before.loop-i.i in
-    let kind = k.kind_at-kind.result in
-    let memory = t.turn-t.result.memory-1 in
+    let v = c.loop-i.invariant in
+    let q = c.put_held_at.ensures in
+    let w = c.loop-i.words in
+    let i = c.loop-i.i in
+    let kind = c.kind_at-kind.result in
+    let memory = c.turn-t.result.memory in
     record {
-      plays = plays-next w i _ _ k.kind_at-kind.ensures.0 m.memory_at-held.ensures.0 _ _ _ _ _ _ _ _ _ _ v.plays il.loop-i-test.true k.kind_at-kind.ensures.1 m.memory_at-held.ensures.1 v.long _ _ _ _ _
-          t.turn-t.ensures c.before.format_after-reaching.ensures q.1 _ q.0 _ c.next_stage-i.ensures;
-      moved = subst (Moved _) (sym q.0) (moved_put w i (held_at kind) (held_words kind memory) (held_past kind) (held_within kind memory) _ v.moved (omega (arith, v.used, il.loop-i-test.true)));
+      plays = plays-next w i _ _ c.kind_at-kind.ensures.0 c.memory_at-held.ensures.0 _ _ _ _ _ _ _ _ _ _ v.plays c.loop-i-test.true c.kind_at-kind.ensures.1 c.memory_at-held.ensures.1 v.long _ _ _ _ _
+          c.turn-t.ensures c.format_after-reaching.ensures q.1 _ q.0 _ c.next_stage-i.ensures;
+      moved = subst (Moved _) (sym q.0) (moved_put w i (held_at kind) (held_words kind memory) (held_past kind) (held_within kind memory) _ v.moved (omega (arith, v.used, c.loop-i-test.true)));
       used = v.used;
       long = omega (arith, v.long, ap length q.0 ∙ length-sets w _ (held_words kind memory));
     }
@@ -111,10 +111,10 @@ returns c =
     let k = known b in
     let a = (s k).args in
     let v = (l c).loop-i.invariant in (
-      plays-end a.words-1.now a.sound.now a.a-1.now a.b-1.now _ _ _ (takes k) (bytes k) (numbered b).count_of-count.ensures (formed b).format_of-own.ensures (copied b).copy_unstaged.ensures
-          _ _ _ _ _ _ _ _ v.plays (done c).before.before.loop-i-test.false (s k).pre.0 v.moved (done c).count_block.ensures a.timestamp _ c.answered.ensures,
-      stays a.words-1.now a.sound.now a.a-1.now a.b-1.now _ _ _ (takes k) (bytes k) (numbered b).count_of-count.ensures (formed b).format_of-own.ensures (copied b).copy_unstaged.ensures
-          _ _ _ _ _ _ _ _ v.plays (done c).before.before.loop-i-test.false (s k).pre.0 v.moved (done c).count_block.ensures,
+      plays-end a.words.now a.sound.now a.a.now a.b.now _ _ _ (takes k) (bytes k) (numbered b).count_of-count.ensures (formed b).format_of-own.ensures (copied b).copy_unstaged.ensures
+          _ _ _ _ _ _ _ _ v.plays (done c).loop-i-test.false (s k).requires.0 v.moved (done c).count_block.ensures a.timestamp _ c.answered.ensures,
+      stays a.words.now a.sound.now a.a.now a.b.now _ _ _ (takes k) (bytes k) (numbered b).count_of-count.ensures (formed b).format_of-own.ensures (copied b).copy_unstaged.ensures
+          _ _ _ _ _ _ _ _ v.plays (done c).loop-i-test.false (s k).requires.0 v.moved (done c).count_block.ensures,
     )
 
 same-length-2 : tie.Need-shape_of-a invariant-loop decreases-loop
@@ -123,7 +123,7 @@ same-length-2 c =
     let k = known b in
     let a = (s k).args in
     (l c).loop-i.invariant.plays.same_a
-    ∙ same_long a.words-1.now a.sound.now a.a-1.now a.b-1.now _ _ _ (takes k) (bytes k) (numbered b).count_of-count.ensures (formed b).format_of-own.ensures (copied b).copy_unstaged.ensures
+    ∙ same_long a.words.now a.sound.now a.a.now a.b.now _ _ _ (takes k) (bytes k) (numbered b).count_of-count.ensures (formed b).format_of-own.ensures (copied b).copy_unstaged.ensures
 
 pub play_spec : {M : Type 1} → statement M
 play_spec = tie.close (tie.spec
@@ -131,18 +131,18 @@ play_spec = tie.close (tie.spec
     decreases-loop
     (λ c κs. long c.before)
     (λ c κs. long c.before.before.before)
-    (λ c κs. let k = c.before.before.before.before.before in let a = (s k).args in copy_fits a.words-1.now a.sound.now a.a-1.now a.b-1.now _ (takes k) c.before.count_of-count.ensures)
+    (λ c κs. let k = c.before.before.before.before.before in let a = (s k).args in copy_fits a.words.now a.sound.now a.a.now a.b.now _ (takes k) c.count_of-count.ensures)
     loop-holds
-    (λ c κs. let l = c.before.before in (omega (arith, l.loop-i.invariant.plays.few, c.before.loop-i-test.true), l.loop-i.invariant.long))
-    (λ c κs. let l = c.before.before.before.before in (omega (arith, l.loop-i.invariant.plays.few, c.before.before.before.loop-i-test.true), l.loop-i.invariant.long))
+    (λ c κs. let l = c.before.before in (omega (arith, c.loop-i.invariant.plays.few, c.loop-i-test.true), c.loop-i.invariant.long))
+    (λ c κs. let l = c.before.before.before.before in (omega (arith, c.loop-i.invariant.plays.few, c.loop-i-test.true), c.loop-i.invariant.long))
     (λ c κs.
     let m = c.before.before in
     let k = m.before.before in
     let il = k.before.before in
-    asks_at _ _ _ _ k.kind_at-kind.ensures.0 m.memory_at-held.ensures.0 _ _ _ _ _ _ _ _ _ _ il.before.loop-i.invariant.plays il.loop-i-test.true)
+    asks_at _ _ _ _ c.kind_at-kind.ensures.0 c.memory_at-held.ensures.0 _ _ _ _ _ _ _ _ _ _ c.loop-i.invariant.plays c.loop-i-test.true)
     (λ c κs.
     let il = c.before.before.before.before.before.before.before.before.before.before.before.before.before in
-    (omega (arith, il.before.loop-i.invariant.plays.few, il.loop-i-test.true), il.before.loop-i.invariant.long))
+    (omega (arith, c.loop-i.invariant.plays.few, c.loop-i-test.true), c.loop-i.invariant.long))
     (λ c.
     let t = c.before.before.before.before.before.before.before.before.before.before in
     let m = t.before.before.before in
@@ -151,23 +151,23 @@ play_spec = tie.close (tie.spec
     record {
       fits = omega (
         arith,
-        sum-at _ _ _ _ k.kind_at-kind.ensures.0 m.memory_at-held.ensures.0 _ _ _ _ _ _ _ _ _ _ il.before.loop-i.invariant.plays il.loop-i-test.true t.turn-t.ensures.does.holds,
+        sum-at _ _ _ _ c.kind_at-kind.ensures.0 c.memory_at-held.ensures.0 _ _ _ _ _ _ _ _ _ _ c.loop-i.invariant.plays c.loop-i-test.true c.turn-t.ensures.does.holds,
       );
     })
     (λ c κs. search rules)
     (λ c κs.
     let t = c.before.before.before.before.before.before.before.before.before.before.before in
-    t.before.before.before.before.before.before.before.loop-i-test.true)
+    c.loop-i-test.true)
     (λ c.
     let t = c.before.before.before.before.before.before.before.before.before.before.before.before in
     let il = t.before.before.before.before.before.before.before in
-    next_less il.before.loop-i.i _ t.turn-t.result.len _ il.loop-i-test.true c.next_stage-i.ensures)
+    next_less c.loop-i.i _ c.turn-t.result.len _ c.loop-i-test.true c.next_stage-i.ensures)
     loop-again
-    (λ c κs. c.before.before.loop-i.invariant.long)
+    (λ c κs. c.loop-i.invariant.long)
     (λ c κs. search rules)
     (λ c.
     let v = (l c).loop-i in
-    ap length (done c).count_block.ensures ∙ length-sets v.words-1 3 (counter_words (counted_up (counter_at v.words-1 3)) (counted_if v.len (counter_at v.words-1 5))) ∙ v.invariant.moved.long)
+    ap length (done c).count_block.ensures ∙ length-sets v.words 3 (counter_words (counted_up (counter_at v.words 3)) (counted_if v.len (counter_at v.words 5))) ∙ v.invariant.moved.long)
     same-length-2
     (λ c. (l c).loop-i.invariant.plays.same_b)
     returns)

@@ -16,14 +16,14 @@ module _ (c : tie.After-asked-verdict) where
   s = c.before.before.before.before.before.before.before
 
   verdict : c.asked-verdict.result ≡ block_verdict (chain_of_words s.args.words.now) s.args.format (length s.args.sound.now) (shorter s.args.a.now s.args.b.now)
-  verdict = c.asked-verdict.ensures ∙ ap (block_verdict (chain_of_words s.args.words.now) s.args.format (length s.args.sound.now)) c.before.before.shorter_of-shorter.ensures
+  verdict = c.asked-verdict.ensures ∙ ap (block_verdict (chain_of_words s.args.words.now) s.args.format (length s.args.sound.now)) c.shorter_of-shorter.ensures
 
 module _ (c : tie.In-Accepted) where
   abbrev k : tie.After-asked-verdict
-  k = c.before.before
+  k = c.before
 
   accepted : block_verdict (chain_of_words (s k).args.words.now) (s k).args.format (length (s k).args.sound.now) (shorter (s k).args.a.now (s k).args.b.now) ≡ Accepted
-  accepted = sym (verdict k) ∙ c.enum_told-1.given.1
+  accepted = sym (verdict k) ∙ c.in-Accepted.is
 
 pub process_spec : {M : Type 1} → statement M
 process_spec = tie.close (tie.spec
@@ -31,20 +31,20 @@ process_spec = tie.close (tie.spec
     (λ c κs.
     let e = c.before.before.before in
     let a = (s (k e)).args in
-    (accepted_stands a.words-1.now a.format a.sound.now a.a-1.now a.b-1.now (accepted e), accepts _ a.format a.sound.now a.a-1.now a.b-1.now (accepted e)))
+    (accepted_stands a.words.now a.format a.sound.now a.a.now a.b.now (accepted e), accepts _ a.format a.sound.now a.a.now a.b.now (accepted e)))
     (λ c. search rules) (λ c. search rules) (λ c. search rules) (λ c. search rules)
     (λ c.
     let p = c.before.before.before.before.before.before in
     let e = p.before.before.before.before in
     let a = (s (k e)).args in (
-      p.play.ensures.0 ∙ accepted_call (chain_of_words a.words-1.now) a.format a.timestamp a.sound.now a.a-1.now a.b-1.now (accepted e),
-      words_accepted _ _ _ _ _ _ _ _ _ _ p.play.ensures.0 p.play.ensures.1,
+      c.play.ensures.0 ∙ accepted_call (chain_of_words a.words.now) a.format a.timestamp a.sound.now a.a.now a.b.now (accepted e),
+      words_accepted _ _ _ _ _ _ _ _ _ _ c.play.ensures.0 c.play.ensures.1,
     ))
     (λ c. search rules)
     (λ c.
-    let v = c.before in
-    let n = v.before.before in
+    let v = c in
+    let n = v.before in
     let a = (s n).args in (
-      refused_is (chain_of_words a.words-1.now) a.format a.timestamp a.sound.now a.a-1.now a.b-1.now _ _ _ refl refl (sym (verdict n) ∙ v.verdict-1.given.1),
+      refused_is (chain_of_words a.words.now) a.format a.timestamp a.sound.now a.a.now a.b.now _ _ _ refl refl (sym (verdict n) ∙ c.in-Refused.is),
       refl,
     )))

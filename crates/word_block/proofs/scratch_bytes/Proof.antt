@@ -18,35 +18,35 @@ use Rattle.word_block.proofs.scratch_bytes.Statement.{statement}
 use Rattle.word_block.proofs.scratch_bytes.Tie as tie
 
 module _ (c : tie.Else-not-legal_head) where
-  headed : legal_head c.before.before.before.args.words.now ≡ true
-  headed = sym c.before.legal_head.ensures ∙ not-false _ c.if-not-legal_head.false
+  headed : legal_head c.args.words.now ≡ true
+  headed = sym c.legal_head.ensures ∙ not-false _ c.if-not-legal_head.false
 
 module _ (c : tie.After-count_of-count) where
-  head : head_legal c.before.format_of-own.result c.count_of-count.result ≡ true
-  head = head_at _ (headed c.before.before) _ _ c.count_of-count.ensures c.before.format_of-own.ensures
+  head : head_legal c.format_of-own.result c.count_of-count.result ≡ true
+  head = head_at _ (headed c.before.before) _ _ c.count_of-count.ensures c.format_of-own.ensures
 
-  parts : Head c.before.format_of-own.result c.count_of-count.result
-  parts = head_parts c.before.format_of-own.result c.count_of-count.result head
+  parts : Head c.format_of-own.result c.count_of-count.result
+  parts = head_parts c.format_of-own.result c.count_of-count.result head
 
-answers : (v : tie.After-sized-verdict) → scratch_answer v.sized-verdict.result (2 * v.before.walked-walk.result.largest) ≡ scratch_bytes (chain_of_words v.before.before.before.before.before.before.before.before.args.words.now) v.before.before.before.before.before.before.before.before.args.size
+answers : (v : tie.After-sized-verdict) → scratch_answer v.sized-verdict.result (2 * v.walked-walk.result.largest) ≡ scratch_bytes (chain_of_words v.args.words.now) v.args.size
 answers v =
     let w = v.before in
     let b = w.before in
     let n = b.before in
     let f = n.before in
-    scratch_at _ (headed f.before) _ _ n.count_of-count.ensures f.format_of-own.ensures _ _ _ _ b.begun-start.ensures w.walked-walk.ensures.is v.sized-verdict.ensures
+    scratch_at _ (headed f.before) _ _ v.count_of-count.ensures v.format_of-own.ensures _ _ _ _ v.begun-start.ensures v.walked-walk.ensures.is v.sized-verdict.ensures
 
 pub scratch_bytes_spec : {M : Type 1} → statement M
 scratch_bytes_spec = tie.close (tie.spec
     (λ c κs. search rules)
-    (λ c. scratch_refused_at _ (sym c.before.legal_head.ensures ∙ not-true _ c.if-not-legal_head.true) _)
+    (λ c. scratch_refused_at _ (sym c.legal_head.ensures ∙ not-true _ c.if-not-legal_head.true) _)
     (λ c κs. stands_long _ (head_stands _ (headed c)))
     (λ c κs. stands_long _ (head_stands _ (headed c.before)))
     (λ c κs. (parts c).channels)
     (λ c κs. (stands_long _ (head_stands _ (headed c.before.before.before)), asks_begin _ _ _ _ _ _ _ _ (head c.before) (eight _) c.begun-start.ensures))
     (λ c κs. (parts c.before.before).channels.0)
     (λ c. search rules)
-    (λ c. record { fits = omega (arith, c.before.before.before.before.walked-walk.ensures.largest) })
+    (λ c. record { fits = omega (arith, c.walked-walk.ensures.largest) })
     (λ c. search rules)
-    (λ c. let v = c.before.before.before in ap (λ (x : Verdict). scratch_answer x (2 * v.before.walked-walk.result.largest)) (sym c.before.enum_told-1.given.1) ∙ answers v)
-    (λ c. let v = c.before.before.before in ap (λ (x : Verdict). scratch_answer x (2 * v.before.walked-walk.result.largest)) (sym c.before.verdict-1.given.1) ∙ answers v))
+    (λ c. let v = c.before.before in ap (λ (x : Verdict). scratch_answer x (2 * c.walked-walk.result.largest)) (sym c.in-Accepted.is) ∙ answers v)
+    (λ c. let v = c.before in ap (λ (x : Verdict). scratch_answer x (2 * c.walked-walk.result.largest)) (sym c.in-Refused.is) ∙ answers v))

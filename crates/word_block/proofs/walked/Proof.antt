@@ -21,20 +21,20 @@ loop-again c =
     let m = c.before in
     let k = m.before in
     let l = k.before.before in
-    let a = l.before.before.args in
-    let v = l.loop-i.invariant in
-    asks_next _ _ _ _ _ _ _ _ v k.before.loop-i-test.true _
+    let a = c.args in
+    let v = c.loop-i.invariant in
+    asks_next _ _ _ _ _ _ _ _ v c.loop-i-test.true _
     (c.asked-walk.ensures
-    ∙ ap (stepped a.question a.shorter l.loop-i.walk) (sym (in_chain a.words.now l.loop-i.i k.kind_at-kind.result m.memory_at-memory.result k.kind_at-kind.ensures.0 m.memory_at-memory.ensures.0 (omega (arith, v.few)))))
+    ∙ ap (stepped a.question a.shorter c.loop-i.walk) (sym (in_chain a.words.now c.loop-i.i c.kind_at-kind.result c.memory_at-memory.result c.kind_at-kind.ensures.0 c.memory_at-memory.ensures.0 (omega (arith, v.few)))))
 
 pub walked_spec : {M : Type 1} → statement M
 walked_spec = tie.close (tie.spec
     invariant-loop
     decreases-loop
-    (λ c. c.before.requires.1)
-    (λ c κs. (omega (arith, c.before.loop-i.invariant.few), c.before.before.before.requires.0))
-    (λ c κs. (omega (arith, c.before.before.loop-i.invariant.few), c.before.before.before.before.requires.0))
-    (λ c κs. asks_fits _ _ _ _ _ _ _ _ c.before.before.before.loop-i.invariant c.before.before.loop-i-test.true)
+    (λ c. c.requires.1)
+    (λ c κs. (omega (arith, c.loop-i.invariant.few), c.requires.0))
+    (λ c κs. (omega (arith, c.loop-i.invariant.few), c.requires.0))
+    (λ c κs. asks_fits _ _ _ _ _ _ _ _ c.loop-i.invariant c.loop-i-test.true)
     (λ c. search rules) (λ c. search rules)
     loop-again
-    (λ c. let v = c.before.loop-i.invariant in record { is = asks_end _ _ _ _ _ _ _ _ v c.loop-i-test.false; largest = v.within.largest; short = v.within.short }))
+    (λ c. let v = c.loop-i.invariant in record { is = asks_end _ _ _ _ _ _ _ _ v c.loop-i-test.false; largest = v.within.largest; short = v.within.short }))

@@ -13,24 +13,24 @@ use Rattle.word_finish.proofs.asked.Statement.{statement}
 use Rattle.word_finish.proofs.asked.Tie as tie
 
 module _ (c : tie.Else-not-legal_head) where
-  headed : legal_head c.before.before.before.args.words.now ≡ true
-  headed = sym c.before.legal_head.ensures ∙ not-false _ c.if-not-legal_head.false
+  headed : legal_head c.args.words.now ≡ true
+  headed = sym c.legal_head.ensures ∙ not-false _ c.if-not-legal_head.false
 
 module _ (c : tie.After-count_of-count) where
-  head : head_legal c.before.format_of-own.result c.count_of-count.result ≡ true
-  head = head_at _ (headed c.before.before) _ _ c.count_of-count.ensures c.before.format_of-own.ensures
+  head : head_legal c.format_of-own.result c.count_of-count.result ≡ true
+  head = head_at _ (headed c.before.before) _ _ c.count_of-count.ensures c.format_of-own.ensures
 
-  parts : Head c.before.format_of-own.result c.count_of-count.result
-  parts = head_parts c.before.format_of-own.result c.count_of-count.result head
+  parts : Head c.format_of-own.result c.count_of-count.result
+  parts = head_parts c.format_of-own.result c.count_of-count.result head
 
 pub asked_spec : {M : Type 1} → statement M
 asked_spec = tie.close (tie.spec
     (λ c κs. search rules)
-    (λ c. refused_at _ _ (sym c.before.legal_head.ensures ∙ not-true _ c.if-not-legal_head.true))
+    (λ c. refused_at _ _ (sym c.legal_head.ensures ∙ not-true _ c.if-not-legal_head.true))
     (λ c κs. stands_long _ (head_stands _ (headed c)))
     (λ c κs. stands_long _ (head_stands _ (headed c.before)))
     (λ c κs. (parts c).channels)
     (λ c κs. (stands_long _ (head_stands _ (headed c.before.before.before)), asks_begin _ _ _ _ _ _ _ _ (head c.before) (eight _) c.begun-start.ensures))
     (λ c κs. c.walked-walk.ensures.short)
     (λ c. let w = c.before in let b = w.before in let n = b.before in let f = n.before in
-    verdict_at _ (headed f.before) _ _ n.count_of-count.ensures f.format_of-own.ensures _ _ _ _ b.begun-start.ensures w.walked-walk.ensures.is c.verdict.ensures))
+    verdict_at _ (headed f.before) _ _ c.count_of-count.ensures c.format_of-own.ensures _ _ _ _ c.begun-start.ensures c.walked-walk.ensures.is c.verdict.ensures))

@@ -31,7 +31,7 @@ module _ (p : tie.After-play-done) where
   w = s.args.words.now
 
   stood : stands w ≡ true
-  stood = finishes_stands w s.args.a.now s.args.b.now s.pre
+  stood = finishes_stands w s.args.a.now s.args.b.now s.requires
 
   abbrev played : FinishResult
   played = record { chain = p.play-done.result.chain; answer = p.play-done.result.answer; a = p.play-done.last.1.0; b = p.play-done.last.1.1.0 }
@@ -54,11 +54,11 @@ pub play_spec : {M : Type 1} → statement M
 play_spec = tie.close (tie.spec
     (λ c κs. search rules)
     (λ c κs. let o = c.before.before in let s = o.before.before.before.before.before in
-    subst (λ (x : Pipeline). Finishes x s.args.a.now s.args.b.now) (sym o.chain_of-own.ensures.0) s.requires)
+    subst (λ (x : Pipeline). Finishes x s.args.a.now s.args.b.now) (sym c.chain_of-own.ensures.0) s.requires)
     (λ c κs. let p = c.before.before.before.before.before.before in
     (subst (λ (x : Pipeline). x.count ≤ 8) (sym (cleared p)) (reset_few (w p) (stood p)), stands_long (w p) (stood p)))
     (λ c. search rules) (λ c. search rules) (λ c. search rules)
     (λ c. let q = c.before.before in let p = q.before.before.before.before.before.before.before in (
-      ap (λ (x : Pipeline). let r : FinishResult = record { chain = x; answer = p.play-done.result.answer; a = p.play-done.new.1.0; b = p.play-done.new.1.1.0 } in r) (stand_for p _ q.put_sound.ensures.0 q.put_sound.ensures.1) ∙ played_is p,
-      q.put_sound.ensures.0 ∙ ap (sound_words (w p)) (cleared p),
+      ap (λ (x : Pipeline). let r : FinishResult = record { chain = x; answer = c.play-done.result.answer; a = c.play-done.new.a; b = c.play-done.new.b } in r) (stand_for p _ c.put_sound.ensures.0 c.put_sound.ensures.1) ∙ played_is p,
+      c.put_sound.ensures.0 ∙ ap (sound_words (w p)) (cleared p),
     )))

@@ -20,9 +20,9 @@ put-sound-requires c κs =
     let r = c.before in
     let o = r.before in
     let t = o.before.before in
-    let w = t.before.before.before.before.args.words.now in
-    let h : stands w ≡ true = sym t.before.stand.ensures ∙ t.if-stand.true in
-    let q : r.reset-after.result ≡ reset_call (chain_of_words w) = r.reset-after.ensures ∙ ap reset_call o.chain_of-own.ensures.0 in
+    let w = c.args.words.now in
+    let h : stands w ≡ true = sym c.stand.ensures ∙ c.if-stand.true in
+    let q : c.reset-after.result ≡ reset_call (chain_of_words w) = c.reset-after.ensures ∙ ap reset_call c.chain_of-own.ensures.0 in
     (subst (λ (x : Pipeline). x.count ≤ 8) (sym q) (reset_few w h), stands_long w h)
 
 returns : tie.Need-returns-then-stand
@@ -31,18 +31,18 @@ returns c =
     let r = p.before.before in
     let o = r.before in
     let t = o.before.before in
-    let w = t.before.before.before.before.args.words.now in
-    let h : stands w ≡ true = sym t.before.stand.ensures ∙ t.if-stand.true in
-    let q : r.reset-after.result ≡ reset_call (chain_of_words w) = r.reset-after.ensures ∙ ap reset_call o.chain_of-own.ensures.0 in
-    let small : All Small (chain_of_words w).stages = subst (λ (x : Pipeline). All Small x.stages) o.chain_of-own.ensures.0 o.chain_of-own.ensures.1 in (
-      rw (h, p.put_sound.ensures.0, q),
-      ap chain_of_words (p.put_sound.ensures.0 ∙ ap (sound_words w) q) ∙ reset_stands w small h (subst (λ (x : Pipeline). All HeldMemory (stages_of x)) q p.put_sound.ensures.1),
+    let w = c.args.words.now in
+    let h : stands w ≡ true = sym c.stand.ensures ∙ c.if-stand.true in
+    let q : c.reset-after.result ≡ reset_call (chain_of_words w) = c.reset-after.ensures ∙ ap reset_call c.chain_of-own.ensures.0 in
+    let small : All Small (chain_of_words w).stages = subst (λ (x : Pipeline). All Small x.stages) c.chain_of-own.ensures.0 c.chain_of-own.ensures.1 in (
+      rw (h, c.put_sound.ensures.0, q),
+      ap chain_of_words (c.put_sound.ensures.0 ∙ ap (sound_words w) q) ∙ reset_stands w small h (subst (λ (x : Pipeline). All HeldMemory (stages_of x)) q c.put_sound.ensures.1),
     )
 
 returns-2 : tie.Need-returns
 returns-2 c =
-    let w = c.before.before.before.before.args.words.now in
-    let h : stands w ≡ false = sym c.before.stand.ensures ∙ c.if-stand.false in
+    let w = c.args.words.now in
+    let h : stands w ≡ false = sym c.stand.ensures ∙ c.if-stand.false in
     (rw h, rw (no_words w h) (sym no_chain_reset))
 
 pub reset_spec : {M : Type 1} → statement M

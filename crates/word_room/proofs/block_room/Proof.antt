@@ -12,16 +12,16 @@ use Rattle.word_room.proofs.block_room.Statement.{statement}
 use Rattle.word_room.proofs.block_room.Tie as tie
 
 module _ (c : tie.Else-not-legal_head) where
-  headed : legal_head c.before.before.before.args.words.now ≡ true
-  headed = sym c.before.legal_head.ensures ∙ not-false _ c.if-not-legal_head.false
+  headed : legal_head c.args.words.now ≡ true
+  headed = sym c.legal_head.ensures ∙ not-false _ c.if-not-legal_head.false
 
 pub block_room_spec : {M : Type 1} → statement M
 block_room_spec = tie.close (tie.spec
     (λ c κs. search rules)
-    (λ c. block_room_refused _ (head_illegal _ (sym c.before.legal_head.ensures ∙ not-true _ c.if-not-legal_head.true)) _)
+    (λ c. block_room_refused _ (head_illegal _ (sym c.legal_head.ensures ∙ not-true _ c.if-not-legal_head.true)) _)
     (λ c κs. stands_long _ (head_stands _ (headed c)))
     (λ c κs. (own-parts _ (headed c.before) _ c.format_of-own.ensures).channels.1)
     (λ c κs. headed c.before.before)
-    (λ c κs. let f = c.before.before in (own-parts _ (headed f.before) _ f.format_of-own.ensures).channels.0)
+    (λ c κs. let f = c.before.before in (own-parts _ (headed f.before) _ c.format_of-own.ensures).channels.0)
     (λ c. let w = c.before in let s = w.before in let f = s.before in
-    block_at _ (headed f.before) _ f.format_of-own.ensures _ _ _ _ s.asked_bytes-size.ensures w.walked.ensures c.of_block.ensures))
+    block_at _ (headed f.before) _ c.format_of-own.ensures _ _ _ _ c.asked_bytes-size.ensures c.walked.ensures c.of_block.ensures))

@@ -10,14 +10,14 @@ use Rattle.word_room.proofs.walked.Statement.{statement}
 use Rattle.word_room.proofs.walked.Tie as tie
 
 module _ (c : tie.After-count_of-count) where
-  head : head_legal c.before.format_of-own.result c.count_of-count.result ≡ true
-  head = head_at _ c.before.before.before.requires _ _ c.count_of-count.ensures c.before.format_of-own.ensures
+  head : head_legal c.format_of-own.result c.count_of-count.result ≡ true
+  head = head_at _ c.requires _ _ c.count_of-count.ensures c.format_of-own.ensures
 
 pub walked_spec : {M : Type 1} → statement M
 walked_spec = tie.close (tie.spec
-    (λ c κs. stands_long _ (head_stands _ c.before.requires))
-    (λ c κs. stands_long _ (head_stands _ c.before.before.requires))
-    (λ c κs. (head_parts c.before.format_of-own.result c.count_of-count.result (head c)).channels)
-    (λ c κs. (stands_long _ (head_stands _ c.before.before.before.before.requires), asks_begin _ _ _ _ _ _ _ _ (head c.before) (eight _) c.begun-start.ensures))
+    (λ c κs. stands_long _ (head_stands _ c.requires))
+    (λ c κs. stands_long _ (head_stands _ c.requires))
+    (λ c κs. (head_parts c.format_of-own.result c.count_of-count.result (head c)).channels)
+    (λ c κs. (stands_long _ (head_stands _ c.requires), asks_begin _ _ _ _ _ _ _ _ (head c.before) (eight _) c.begun-start.ensures))
     (λ c. let b = c.before in let n = b.before in let f = n.before in
-    found_at _ f.before.before.requires _ _ n.count_of-count.ensures f.format_of-own.ensures _ _ _ _ b.begun-start.ensures c.walked.ensures.is))
+    found_at _ c.requires _ _ c.count_of-count.ensures c.format_of-own.ensures _ _ _ _ c.begun-start.ensures c.walked.ensures.is))

@@ -31,11 +31,11 @@ loop-holds c = (omega arith, omega arith, refl)
 loop-again : tie.Need-loop-i-preserved invariant-loop decreases-loop
 loop-again c =
     let l = c.before.before.before.before in
-    let stages = l.before.args.stages in
-    let n = recipe_next stages l.loop-i.i no_stage (omega (arith, eight l.before)) in
-    let e = c.size-size.ensures ∙ ap (λ r. length (record_bytes r)) c.before.record_of.ensures in
-    let m = ap length n ∙ length-append (recipe_of (take l.loop-i.i stages)) _ in
-    (search rules, omega (arith, small c), ap₂ ◌+◌ l.loop-i.invariant.2 e ∙ sym m)
+    let stages = c.args.stages in
+    let n = recipe_next stages c.loop-i.i no_stage (omega (arith, eight l.before)) in
+    let e = c.size-size.ensures ∙ ap (λ r. length (record_bytes r)) c.record_of.ensures in
+    let m = ap length n ∙ length-append (recipe_of (take c.loop-i.i stages)) _ in
+    (search rules, omega (arith, small c), ap₂ ◌+◌ c.loop-i.invariant.2 e ∙ sym m)
 
 pub recipe_size_spec : {M : Type 1} → statement M
 recipe_size_spec = tie.close (tie.spec invariant-loop decreases-loop
@@ -44,4 +44,4 @@ recipe_size_spec = tie.close (tie.spec invariant-loop decreases-loop
     (λ c. omega (arith, small c))
     (λ c. search rules) (λ c. search rules)
     loop-again
-    (λ c. let e : c.before.loop-i.i ≡ c.before.before.args.count = omega arith in rw e at c.before.loop-i.invariant.2))
+    (λ c. let e : c.loop-i.i ≡ c.args.count = omega arith in rw e at c.loop-i.invariant.2))

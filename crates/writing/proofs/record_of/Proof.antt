@@ -8,16 +8,16 @@ use Rattle.writing.proofs.record_of.Tie as tie
 
 returns : tie.Need-returns-in-Gain
 returns c =
-    let q = c.before.before.kind-1.given.0.0.q15 in
+    let q = c.in-Gain.g.q15 in
     let e : to_z w32 (of_z w32 q) ≡ q = search rules in
-    rw (c.before.before.kind-1.given.1, e)
+    rw (c.in-Gain.is, e)
 
 pub record_of_spec : {M : Type 1} → statement M
 record_of_spec = tie.close (tie.spec
     (λ c. search rules) (λ c. search rules) (λ c. search rules) (λ c. search rules) (λ c. search rules) (λ c. search rules)
     returns
-    (λ c. rw c.enum_told-1.given.1)
-    (λ c. rw c.enum_told-in-StereoToMono-1.given.1)
-    (λ c. rw c.before.kind-in-Resample-1.given.1)
-    (λ c. rw c.before.kind-in-DcBlock-1.given.1)
-    (λ c. rw c.before.before.kind-in-Biquad-1.given.1))
+    (λ c. rw c.in-MonoToStereo.is)
+    (λ c. rw c.in-StereoToMono.is)
+    (λ c. rw c.in-Resample.is)
+    (λ c. rw c.in-DcBlock.is)
+    (λ c. rw c.in-Biquad.is))

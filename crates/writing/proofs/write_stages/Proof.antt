@@ -35,35 +35,35 @@ loop-holds c = (omega arith, refl, sym (written-nil _))
 
 -- the records so far, with the next
 next_is : (c : tie.After-record_of-next invariant-loop decreases-loop)
-    → recipe_of (take (c.before.before.before.loop-i.i + 1) c.before.before.before.before.before.args.stages) ≡ recipe_of (take c.before.before.before.loop-i.i c.before.before.before.before.before.args.stages) ++ record_bytes c.record_of-next.result
+    → recipe_of (take (c.loop-i.i + 1) c.args.stages) ≡ recipe_of (take c.loop-i.i c.args.stages) ++ record_bytes c.record_of-next.result
 next_is c =
     let l = c.before.before.before in
     let s = l.before.before in
-    recipe_next s.args.stages l.loop-i.i no_stage (omega (arith, eight s)) ∙ rw c.record_of-next.ensures
+    recipe_next c.args.stages c.loop-i.i no_stage (omega (arith, eight s)) ∙ rw c.record_of-next.ensures
 
 -- they have room
-kept : (l : tie.At-loop-i invariant-loop decreases-loop) → length l.loop-i.out ≡ length l.before.before.args.out.now
+kept : (l : tie.At-loop-i invariant-loop decreases-loop) → length l.loop-i.out ≡ length l.args.out.now
 kept l =
     let s = l.before.before in
     let v = l.loop-i.invariant in
-    ap length v.2 ∙ length_written (recipe_of (take l.loop-i.i s.args.stages)) s.args.out.now (omega (arith, recipe_within s.args.stages l.loop-i.i s.args.count v.0, s.requires.1))
+    ap length v.2 ∙ length_written (recipe_of (take l.loop-i.i l.args.stages)) l.args.out.now (omega (arith, recipe_within l.args.stages l.loop-i.i l.args.count v.0, l.requires.1))
 
-room : (c : tie.After-record_of-next invariant-loop decreases-loop) → c.before.before.before.loop-i.at + length (record_bytes c.record_of-next.result) ≤ length c.before.before.before.loop-i.out
+room : (c : tie.After-record_of-next invariant-loop decreases-loop) → c.loop-i.at + length (record_bytes c.record_of-next.result) ≤ length c.loop-i.out
 room c =
     let l = c.before.before.before in
     let s = l.before.before in
-    let w = recipe_within s.args.stages (l.loop-i.i + 1) s.args.count (omega arith) in
-    let n = ap length (next_is c) ∙ length-append (recipe_of (take l.loop-i.i s.args.stages)) (record_bytes c.record_of-next.result) in
+    let w = recipe_within c.args.stages (c.loop-i.i + 1) c.args.count (omega arith) in
+    let n = ap length (next_is c) ∙ length-append (recipe_of (take c.loop-i.i c.args.stages)) (record_bytes c.record_of-next.result) in
     let k = kept l in
-    let a = l.loop-i.invariant.1 in
-    let p = s.requires.1 in
+    let a = c.loop-i.invariant.1 in
+    let p = c.requires.1 in
     omega arith
 
 write-requires : tie.Need-write-requires invariant-loop decreases-loop
 write-requires c κs =
     let l = c.before.before.before.before in
     let r = room c.before in
-    rw (part_to_end l.loop-i.out l.loop-i.at, length-drop l.loop-i.at l.loop-i.out) (omega arith)
+    rw (part_to_end c.loop-i.out c.loop-i.at, length-drop c.loop-i.at c.loop-i.out) (omega arith)
 
 loop-again : tie.Need-loop-i-preserved invariant-loop decreases-loop
 loop-again c =
@@ -71,10 +71,10 @@ loop-again c =
     let r = w.before.before in
     let l = r.before.before.before in
     let s = l.before.before in
-    let a = recipe_of (take l.loop-i.i s.args.stages) in (
+    let a = recipe_of (take c.loop-i.i c.args.stages) in (
       search rules,
-      ap₂ ◌+◌ l.loop-i.invariant.1 c.size-at.ensures ∙ sym (ap length (next_is r) ∙ length-append a (record_bytes r.record_of-next.result)),
-      written_part a (record_bytes r.record_of-next.result) s.args.out.now l.loop-i.out w.write.new.1.0 l.loop-i.at l.loop-i.invariant.1 l.loop-i.invariant.2 w.write.ensures ∙ ap (λ (x : List ℕ). written x s.args.out.now) (sym (next_is r)),
+      ap₂ ◌+◌ c.loop-i.invariant.1 c.size-at.ensures ∙ sym (ap length (next_is r) ∙ length-append a (record_bytes c.record_of-next.result)),
+      written_part a (record_bytes c.record_of-next.result) c.args.out.now c.loop-i.out c.write.new.out c.loop-i.at c.loop-i.invariant.1 c.loop-i.invariant.2 c.write.ensures ∙ ap (λ (x : List ℕ). written x c.args.out.now) (sym (next_is r)),
     )
 
 pub write_stages_spec : {M : Type 1} → statement M
@@ -90,4 +90,4 @@ write_stages_spec = tie.close (tie.spec invariant-loop decreases-loop
     (λ c. search rules) (λ c. search rules)
     loop-again
     (λ c. kept c.before)
-    (λ c. let e : c.before.loop-i.i ≡ c.before.before.before.args.count = omega arith in rw e at c.before.loop-i.invariant.2))
+    (λ c. let e : c.loop-i.i ≡ c.args.count = omega arith in rw e at c.loop-i.invariant.2))

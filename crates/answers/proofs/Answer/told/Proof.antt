@@ -7,6 +7,6 @@ pub told_spec : {M : Type 1} → statement M
 told_spec = tie.close (tie.spec
     (λ c. search rules) (λ c κs. search rules) (λ c. search rules) (λ c κs. search rules) (λ c. search rules) (λ c κs. search rules)
     (λ c κs. search rules) (λ c κs. search rules)
-    (λ c. rw (c.before.before.self-1.given.1, c.number.ensures))
-    (λ c. rw (c.before.before.self-in-NothingYet-1.given.1, c.silent.ensures))
-    (λ c. let e = c.before in rw (e.before.before.before.self-in-Refused-1.given.1, c.silent-in-Refused.ensures, e.before.number-in-Refused.ensures, e.needed.ensures)))
+    (λ c. rw (c.in-Output.is, c.number.ensures))
+    (λ c. rw (c.in-NothingYet.is, c.silent.ensures))
+    (λ c. let e = c.before in rw (c.in-Refused.is, c.silent-in-Refused.ensures, c.number-in-Refused.ensures, c.needed.ensures)))

@@ -9,5 +9,5 @@ pub format_spec : {M : Type 1} → statement M
 format_spec = tie.close (tie.spec
     (λ c κs. search rules)
     (λ c κs. search rules)
-    (λ c. omega (arith, c.field-2.ensures, field_within 0xffff c.before.before.before.before.args.channels.now))
-    (λ c. rw (c.before.field.ensures, c.field-2.ensures)))
+    (λ c. omega (arith, c.field-2.ensures, field_within 0xffff c.args.channels.now))
+    (λ c. rw (c.field.ensures, c.field-2.ensures)))

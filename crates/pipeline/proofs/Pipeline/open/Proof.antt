@@ -25,15 +25,15 @@ invariant-loop format recipe stages₀ reaching₀ count₀ at₀ stages reachin
 abbrev decreases-loop : tie.decreases-loop-at
 decreases-loop format recipe stages₀ reaching₀ count₀ at₀ stages reaching count at = length recipe - at
 
-format-allowed : (c : tie.Else-not-allowed invariant-loop decreases-loop) → format_allowed c.before.before.before.args.format ≡ true
-format-allowed c = sym c.before.allowed.ensures ∙ not-false _ c.if-not-allowed.false
+format-allowed : (c : tie.Else-not-allowed invariant-loop decreases-loop) → format_allowed c.args.format ≡ true
+format-allowed c = sym c.allowed.ensures ∙ not-false _ c.if-not-allowed.false
 
 -- the answer to the bytes that are left
-read_is : (c : tie.After-read-answer invariant-loop decreases-loop) → c.read-answer.result ≡ read_record (drop c.before.before.before.loop-at.at c.before.before.before.before.before.before.before.before.args.recipe.now)
+read_is : (c : tie.After-read-answer invariant-loop decreases-loop) → c.read-answer.result ≡ read_record (drop c.loop-at.at c.args.recipe.now)
 read_is c =
     let l = c.before.before.before in
-    let bytes = l.before.before.before.before.before.args.recipe.now in
-    c.read-answer.ensures ∙ ap read_record (take_all (length bytes - l.loop-at.at) (drop l.loop-at.at bytes) (rw length-drop (omega arith)))
+    let bytes = c.args.recipe.now in
+    c.read-answer.ensures ∙ ap read_record (take_all (length bytes - c.loop-at.at) (drop c.loop-at.at bytes) (rw length-drop (omega arith)))
 
 -- the loop, and the entry
 abbrev loop_of : tie.In-Entry invariant-loop decreases-loop → tie.At-loop-at invariant-loop decreases-loop
@@ -47,59 +47,59 @@ left_of l = drop l.loop-at.at (entry l).args.recipe.now
 
 -- bytes are left
 left-some : (c : tie.In-Entry invariant-loop decreases-loop) → (loop_of c).loop-at.at < length (entry (loop_of c)).args.recipe.now
-left-some c = c.before.before.before.before.before.loop-at-test.true
+left-some c = c.loop-at-test.true
 
-found : (c : tie.In-Entry invariant-loop decreases-loop) → read_record (left_of (loop_of c)) ≡ read.Entry c.before.answer-1.given.0.0
-found c = sym (read_is c.before.before.before) ∙ c.before.answer-1.given.1
+found : (c : tie.In-Entry invariant-loop decreases-loop) → read_record (left_of (loop_of c)) ≡ read.Entry c.in-Entry.entry
+found c = sym (read_is c.before) ∙ c.in-Entry.is
 
 -- a note, and a stage's record
-noted : (c : tie.In-Note invariant-loop decreases-loop) → read_record (left_of (loop_of c.before.before.before)) ≡ read.Entry (entered.Note c.before.entry-1.given.0.0)
-noted c = found c.before.before.before ∙ ap read.Entry c.before.entry-1.given.1
+noted : (c : tie.In-Note invariant-loop decreases-loop) → read_record (left_of (loop_of c.before)) ≡ read.Entry (entered.Note c.in-Note.length)
+noted c = found c.before ∙ ap read.Entry c.in-Note.is
 
-recorded : (c : tie.In-Stage invariant-loop decreases-loop) → read_record (left_of (loop_of c.before.before.before)) ≡ read.Entry (entered.Stage c.before.entry-in-Stage-1.given.0.0)
-recorded c = found c.before.before.before ∙ ap read.Entry c.before.entry-in-Stage-1.given.1
+recorded : (c : tie.In-Stage invariant-loop decreases-loop) → read_record (left_of (loop_of c.before)) ≡ read.Entry (entered.Stage c.in-Stage.record)
+recorded c = found c.before ∙ ap read.Entry c.in-Stage.is
 
 taken : (c : tie.In-Stage-made invariant-loop decreases-loop)
-    → stage_answer (8 - (loop_of c.before.before.before.before.before.before.before).loop-at.count) (loop_of c.before.before.before.before.before.before.before).loop-at.reaching
-    c.before.before.before.before.before.entry-in-Stage-1.given.0.0 ≡ answer.Stage c.before.made-1.given.0.0
-taken c = sym c.before.before.before.stage_of-made.ensures ∙ c.before.made-1.given.1
+    → stage_answer (8 - (loop_of c.before.before.before).loop-at.count) (loop_of c.before.before.before).loop-at.reaching
+    c.in-Stage.record ≡ answer.Stage c.in-Stage-made.kind
+taken c = sym c.stage_of-made.ensures ∙ c.in-Stage-made.is
 
 returns : tie.Need-returns-then-not-allowed invariant-loop decreases-loop
 returns c =
     let s = c.before.before.before.before in
-    c.unopened.ensures ∙ sym (call_format s.args.format s.args.recipe.now (sym c.before.before.allowed.ensures ∙ not-true _ c.before.if-not-allowed.true))
+    c.unopened.ensures ∙ sym (call_format c.args.format c.args.recipe.now (sym c.allowed.ensures ∙ not-true _ c.if-not-allowed.true))
 
 loop-holds : tie.Need-loop-at-init invariant-loop decreases-loop
-loop-holds c = let s = c.before.before.before.before in rw c.no_stages-stages.ensures (opens_start s.args.format s.args.recipe.now (format-allowed c.before))
+loop-holds c = let s = c.before.before.before.before in rw c.no_stages-stages.ensures (opens_start c.args.format c.args.recipe.now (format-allowed c.before))
 
 returns-2 : tie.Need-returns-in_default invariant-loop decreases-loop
 returns-2 c =
     let t = c.before.before in
-    let l = t.before.before.before.before.before in
+    let l = t.before.before.before.before in
     let s = entry l in
-    let e = opens-short l.loop-at.invariant t.before.before.before.before.loop-at-test.true (sym (read_is t.before.before) ∙ t.enum_told-1.given.1) in
-    c.unopened-in_default.ensures ∙ rw (c.before.verdict.ensures, t.enum_told-1.given.1) (sym (call-refused s.args.format s.args.recipe.now (format-allowed l.before.before) e))
+    let e = opens-short c.loop-at.invariant c.loop-at-test.true (sym (read_is t.before) ∙ c.in_default.is) in
+    c.unopened-in_default.ensures ∙ rw (c.verdict.ensures, c.in_default.is) (sym (call-refused s.args.format s.args.recipe.now (format-allowed l.before.before) e))
 
 -- a note's bytes are there
 note-there : (c : tie.In-Note invariant-loop decreases-loop)
-    → (loop_of c.before.before.before).loop-at.at + (4 + c.before.entry-1.given.0.0) ≤ length (entry (loop_of c.before.before.before)).args.recipe.now
-note-there c = let k = c.before.before.before in note-within (loop_of k).loop-at.invariant (left-some k) (noted c)
+    → (loop_of c.before).loop-at.at + (4 + c.in-Note.length) ≤ length (entry (loop_of c.before)).args.recipe.now
+note-there c = let k = c.before in note-within (loop_of k).loop-at.invariant (left-some k) (noted c)
 
 loop-again : tie.Need-loop-at-preserved-in-Note invariant-loop decreases-loop
-loop-again c = let k = c.before.before.before in opens-note (loop_of k).loop-at.invariant (left-some k) (noted c)
+loop-again c = let k = c.before in opens-note (loop_of k).loop-at.invariant (left-some k) (noted c)
 
 stage-of-requires : tie.Need-stage_of-made-requires invariant-loop decreases-loop
-stage-of-requires c κs = (loop_of c.before.before.before).loop-at.invariant.rate
+stage-of-requires c κs = (loop_of c.before).loop-at.invariant.rate
 
 returns-3 : tie.Need-returns-in_default-made invariant-loop decreases-loop
 returns-3 c =
     let t = c.before.before in
-    let m = t.before.before.before in
-    let k = m.before.before.before in
+    let m = t.before.before in
+    let k = m.before in
     let l = loop_of k in
     let s = entry l in
-    let e = opens-unfit l.loop-at.invariant (left-some k) (recorded m) (sym t.before.before.stage_of-made.ensures ∙ t.enum_told-in_default-made-1.given.1) in
-    c.unopened-in_default-made.ensures ∙ rw (c.before.verdict-in_default-made.ensures, t.enum_told-in_default-made-1.given.1) (sym (call-refused s.args.format s.args.recipe.now (format-allowed l.before.before) e))
+    let e = opens-unfit l.loop-at.invariant (left-some k) (recorded m) (sym c.stage_of-made.ensures ∙ c.in_default-made.is) in
+    c.unopened-in_default-made.ensures ∙ rw (c.verdict-in_default-made.ensures, c.in_default-made.is) (sym (call-refused s.args.format s.args.recipe.now (format-allowed l.before.before) e))
 
 -- the record of a stage that is taken
 abbrev record_of : tie.In-Stage-made invariant-loop decreases-loop → tie.In-Stage invariant-loop decreases-loop
@@ -122,13 +122,13 @@ bytes_fit : (s : tie.Start invariant-loop decreases-loop) → length s.args.reci
 bytes_fit s = omega arith
 
 add_at : tie.Need-overflow_add-at invariant-loop decreases-loop
-add_at c = let z = note-there c in let b = bytes_fit (entry (loop_of c.before.before.before)) in omega arith
+add_at c = let z = note-there c in let b = bytes_fit (entry (loop_of c.before)) in omega arith
 
 add-at-2 : tie.Need-overflow_add-at-in-Note invariant-loop decreases-loop
-add-at-2 c = let z = note-there c in let b = bytes_fit (entry (loop_of c.before.before.before)) in omega arith
+add-at-2 c = let z = note-there c in let b = bytes_fit (entry (loop_of c.before)) in omega arith
 
 loop-less : tie.Need-loop-at-smaller-in-Note invariant-loop decreases-loop
-loop-less c = let z = note-there c in let t = left-some c.before.before.before in omega arith
+loop-less c = let z = note-there c in let t = left-some c.before in omega arith
 
 add-at-3 : tie.Need-overflow_add-at-in-Stage invariant-loop decreases-loop
 add-at-3 c =
@@ -141,7 +141,7 @@ loop-less-2 c =
     let m = record_of c.before.before.before in
     let z = sized c in
     let t = left-some m.before.before.before in
-    let f = record_four m.before.entry-in-Stage-1.given.0.0 in
+    let f = record_four m.in-Stage.record in
     let e = c.size-at.ensures in
     omega arith
 
@@ -150,14 +150,14 @@ loop-again-2 c =
     let t = c.before.before.before in
     let m = record_of t in
     let k = m.before.before.before in
-    rw (c.before.before.new-next.ensures, c.before.format_after-reaching.ensures, c.size-at.ensures)
+    rw (c.new-next.ensures, c.format_after-reaching.ensures, c.size-at.ensures)
     (opens-next (loop_of k).loop-at.invariant (left-some k) (recorded m) (taken t))
 
 returns-4 : tie.Need-returns invariant-loop decreases-loop
 returns-4 c =
     let l = c.before in
     let s = entry l in
-    let o = l.loop-at.invariant in
+    let o = c.loop-at.invariant in
     let e = call-opened s.args.format s.args.recipe.now (format-allowed l.before.before) (opens_end o c.loop-at-test.false) in
     sym (e ∙ rw (chain_is s.args.format o.done, ← o.many, ← o.placed))
 

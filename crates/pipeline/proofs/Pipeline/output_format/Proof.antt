@@ -19,7 +19,7 @@ invariant-loop count stages leaving₀ passed₀ leaving passed = (passed ≤ co
 abbrev decreases-loop : tie.decreases-loop-passed
 decreases-loop count stages leaving₀ passed₀ leaving passed = count - passed
 
-eight : (c : tie.Start invariant-loop decreases-loop) → length c.args.self.stages-1 ≡ 8
+eight : (c : tie.Start invariant-loop decreases-loop) → length c.args.self.stages ≡ 8
 eight c = search (unmapped, rules)
 
 returns : tie.Need-returns-then-count-gt8 invariant-loop decreases-loop
@@ -27,23 +27,23 @@ unfolding output_format
 returns c = rw (lt-leb _ 8 c.if-count-gt8.true)
 
 loop-holds : tie.Need-loop-passed-init invariant-loop decreases-loop
-loop-holds c = (omega arith, c.before.if-count-gt8.false, refl)
+loop-holds c = (omega arith, c.if-count-gt8.false, refl)
 
 loop-again : tie.Need-loop-passed-preserved invariant-loop decreases-loop
 loop-again c =
     let l = c.before.before.before in
     let s = l.before.before.before.before in
-    let v = l.loop-passed.invariant in
-    (search rules, v.1, v.2 ∙ leaving_next l.loop-passed.leaving s.args.self.stages-1 s.args.self.count l.loop-passed.passed no_stage c.before.before.loop-passed-test.true (omega (arith, eight s)) ∙ rw c.format_after-leaving.ensures)
+    let v = c.loop-passed.invariant in
+    (search rules, v.1, v.2 ∙ leaving_next c.loop-passed.leaving c.args.self.stages c.args.self.count c.loop-passed.passed no_stage c.loop-passed-test.true (omega (arith, eight s)) ∙ rw c.format_after-leaving.ensures)
 
 returns-2 : tie.Need-returns invariant-loop decreases-loop
 unfolding output_format format_leaving
 returns-2 c =
     let l = c.before in
     let s = l.before.before.before.before in
-    let v = l.loop-passed.invariant in
-    let n = length-take-le s.args.self.count s.args.self.stages-1 (omega (arith, eight s)) in
-    let e = drop_of_length-le (take s.args.self.count s.args.self.stages-1) {i = l.loop-passed.passed} (omega arith) in
+    let v = c.loop-passed.invariant in
+    let n = length-take-le c.args.self.count c.args.self.stages (omega (arith, eight s)) in
+    let e = drop_of_length-le (take c.args.self.count c.args.self.stages) {i = c.loop-passed.passed} (omega arith) in
     rw (le-leb _ 8 v.1) (sym (v.2 ∙ rw e))
 
 pub output_format_spec : {M : Type 1} → statement M

@@ -19,7 +19,7 @@ invariant-loop self count stages₀ cleared₀ stages cleared = (cleared ≤ cou
 abbrev decreases-loop : tie.decreases-loop-cleared
 decreases-loop self count stages₀ cleared₀ stages cleared = count - cleared
 
-eight : (c : tie.Start invariant-loop decreases-loop) → length c.args.self.stages-1 ≡ 8
+eight : (c : tie.Start invariant-loop decreases-loop) → length c.args.self.stages ≡ 8
 eight c = search (unmapped, rules)
 
 returns : tie.Need-returns-then-count-gt8 invariant-loop decreases-loop
@@ -27,21 +27,21 @@ unfolding reset_call
 returns c = rw (lt-leb _ 8 c.if-count-gt8.true)
 
 loop-holds : tie.Need-loop-cleared-init invariant-loop decreases-loop
-loop-holds c = (omega arith, c.before.if-count-gt8.false, cleared_none _)
+loop-holds c = (omega arith, c.if-count-gt8.false, cleared_none _)
 
 loop-again : tie.Need-loop-cleared-preserved invariant-loop decreases-loop
 loop-again c =
     let l = c.before.before.before in
     let s = l.before.before.before in
-    let v = l.loop-cleared.invariant in
-    (search rules, v.1, rw (add-one, c.reset-quiet.ensures, v.2) (cleared_next s.args.self.stages-1 l.loop-cleared.cleared no_stage (omega (arith, eight s))))
+    let v = c.loop-cleared.invariant in
+    (search rules, v.1, rw (add-one, c.reset-quiet.ensures, v.2) (cleared_next c.args.self.stages c.loop-cleared.cleared no_stage (omega (arith, eight s))))
 
 returns-2 : tie.Need-returns invariant-loop decreases-loop
 unfolding reset_call cleared_front
 returns-2 c =
     let l = c.before.before in
-    let v = l.loop-cleared.invariant in
-    let e : l.loop-cleared.cleared ≡ l.before.before.before.args.self.count = omega arith in
+    let v = c.loop-cleared.invariant in
+    let e : c.loop-cleared.cleared ≡ c.args.self.count = omega arith in
     rw (le-leb _ 8 v.1) (rw (v.2, e))
 
 pub reset_spec : {M : Type 1} → statement M

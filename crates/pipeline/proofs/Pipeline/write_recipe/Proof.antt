@@ -16,41 +16,41 @@ use Rattle.pipeline.proofs.Pipeline.write_recipe.Tie as tie
 
 returns : tie.Need-returns-then-count-gt8
 unfolding write_call write_verdict
-returns c = let a = c.before.before.args in concluded (write_verdict a.self (length a.out-1.now)) (recipe_of (stages_of a.self)) a.out-1.now _ _ (Refused _) (rw (lt-leb _ 8 c.if-count-gt8.true)) refl
+returns c = let a = c.args in concluded (write_verdict a.self (length a.out.now)) (recipe_of (stages_of a.self)) a.out.now _ _ (Refused _) (rw (lt-leb _ 8 c.if-count-gt8.true)) refl
 
 abbrev start : tie.After-require_room-room → tie.Start
 start c = c.before.before.before.before.before.before
 
 -- where room was asked: the verdict is what `require_room` answered
 asked : (c : tie.After-require_room-room) → let a = (start c).args in
-    write_verdict a.self (length a.out-1.now) ≡ c.require_room-room.result
+    write_verdict a.self (length a.out.now) ≡ c.require_room-room.result
 asked c =
     let a = (start c).args in
-    few_verdict a.self a.out-1.now c.before.before.before.before.if-count-gt8.false
-    ∙ ap (λ (n : ℕ). room_verdict n (length a.out-1.now)) (sym c.before.before.recipe_size-needed.ensures) ∙ sym c.require_room-room.ensures
+    few_verdict a.self a.out.now c.if-count-gt8.false
+    ∙ ap (λ (n : ℕ). room_verdict n (length a.out.now)) (sym c.recipe_size-needed.ensures) ∙ sym c.require_room-room.ensures
 
 -- where it is there
-room : (c : tie.In_default) → let a = (start c.before.before).args in
-    length (recipe_of (stages_of a.self)) ≤ length a.out-1.now
+room : (c : tie.In_default) → let a = (start c.before).args in
+    length (recipe_of (stages_of a.self)) ≤ length a.out.now
 room c =
-    let q = c.before.before in
+    let q = c.before in
     let a = (start q).args in
-    room_enough _ _ (ap (λ (n : ℕ). room_verdict n (length a.out-1.now)) (sym q.before.before.recipe_size-needed.ensures) ∙ sym q.require_room-room.ensures ∙ c.enum_told-1.given.1)
+    room_enough _ _ (ap (λ (n : ℕ). room_verdict n (length a.out.now)) (sym c.recipe_size-needed.ensures) ∙ sym c.require_room-room.ensures ∙ c.in_default.is)
 
 returns-2 : tie.Need-returns-in-Refused
 unfolding write_call
 returns-2 c =
-    let q = c.before.before.before in
+    let q = c.before in
     let a = (start q).args in
-    concluded (write_verdict a.self (length a.out-1.now)) (recipe_of (stages_of a.self)) a.out-1.now _ _ (Refused _) (asked q ∙ c.before.room-1.given.1) refl
+    concluded (write_verdict a.self (length a.out.now)) (recipe_of (stages_of a.self)) a.out.now _ _ (Refused _) (asked q ∙ c.in-Refused.is) refl
 
 returns-3 : tie.Need-returns
 unfolding write_call
 returns-3 c =
     let w = c.before.before in
-    let q = w.before.before.before.before in
+    let q = w.before.before.before in
     let a = (start q).args in
-    wrote (write_verdict a.self (length a.out-1.now)) (recipe_of (stages_of a.self)) a.out-1.now _ _ q.before.before.recipe_size-needed.ensures w.write_stages.ensures (asked q ∙ w.before.before.enum_told-1.given.1)
+    wrote (write_verdict a.self (length a.out.now)) (recipe_of (stages_of a.self)) a.out.now _ _ c.recipe_size-needed.ensures c.write_stages.ensures (asked q ∙ c.in_default.is)
 
 pub write_recipe_spec : {M : Type 1} → statement M
 write_recipe_spec = tie.close (tie.spec

@@ -6,8 +6,8 @@ use Rattle.recipe.specs.Records.{read_record, record_verdict}
 use Rattle.recipe.proofs.Record.read.Statement.{statement}
 use Rattle.recipe.proofs.Record.read.Tie as tie
 
-verdict_is : (c : tie.In-Accepted) → record_verdict c.before.before.before.before.args.left.now ≡ Accepted
-verdict_is c = sym c.before.before.record_question-v.ensures ∙ c.enum_told-1.given.1
+verdict_is : (c : tie.In-Accepted) → record_verdict c.args.left.now ≡ Accepted
+verdict_is c = sym c.record_question-v.ensures ∙ c.in-Accepted.is
 
 returns : tie.Need-returns-in-Accepted
 unfolding read_record
@@ -16,7 +16,7 @@ returns c = rw (verdict_is c.before, c.entry_of.ensures)
 returns-2 : tie.Need-returns-in-Refused
 unfolding read_record
 returns-2 c =
-    let v = sym c.before.before.before.record_question-v.ensures ∙ c.before.v-1.given.1 in
+    let v = sym c.record_question-v.ensures ∙ c.in-Refused.is in
     rw v
 
 pub read_spec : {M : Type 1} → statement M

@@ -6,27 +6,27 @@ use Rattle.recipe.proofs.Record.size.Tie as tie
 
 returns : tie.Need-returns-in-Gain
 unfolding record_bytes
-returns c = rw c.enum_told-1.given.1
+returns c = rw c.in-Gain.is
 
 returns-2 : tie.Need-returns-in-MonoToStereo
 unfolding record_bytes
-returns-2 c = rw c.enum_told-in-MonoToStereo-1.given.1
+returns-2 c = rw c.in-MonoToStereo.is
 
 returns-3 : tie.Need-returns-in-StereoToMono
 unfolding record_bytes
-returns-3 c = rw c.enum_told-in-StereoToMono-1.given.1
+returns-3 c = rw c.in-StereoToMono.is
 
 returns-4 : tie.Need-returns-in-Resample
 unfolding record_bytes
-returns-4 c = rw c.enum_told-in-Resample-1.given.1
+returns-4 c = rw c.in-Resample.is
 
 returns-5 : tie.Need-returns-in-DcBlock
 unfolding record_bytes
-returns-5 c = rw c.enum_told-in-DcBlock-1.given.1
+returns-5 c = rw c.in-DcBlock.is
 
 returns-6 : tie.Need-returns-in-Biquad
 unfolding record_bytes
-returns-6 c = rw c.enum_told-in-Biquad-1.given.1
+returns-6 c = rw c.in-Biquad.is
 
 pub size_spec : {M : Type 1} → statement M
 size_spec = tie.close (tie.spec

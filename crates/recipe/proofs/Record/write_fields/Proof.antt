@@ -23,41 +23,41 @@ stored : (c : tie.Start) {r : Record} → c.args.self ≡ r → (l : List ℕ) �
 stored c e l h = h ∙ ap (λ (r : Record). sets c.args.out.now 4 (words_bytes (fields_of r))) (sym e)
 
 put-u32-requires : tie.Need-put_u32-requires
-put-u32-requires c κs = let s = c.before.before.before in omega (arith, room s.before.before.before s.self-1.given.1)
+put-u32-requires c κs = let s = c.before.before in omega (arith, room s.before.before c.in-Gain.is)
 
 put-u32-requires-2 : tie.Need-put_u32-requires-in-Resample
-put-u32-requires-2 c κs = let s = c.before.before in omega (arith, room s.before.before.before s.self-in-Resample-1.given.1)
+put-u32-requires-2 c κs = let s = c.before in omega (arith, room s.before.before c.in-Resample.is)
 
 put-u32-requires-3 : tie.Need-put_u32-requires-in-Resample-2
 put-u32-requires-3 c κs =
     let p = c.before.before.before in
-    let s = p.before.before.before in
-    omega (arith, room s.before.before.before s.self-in-Resample-1.given.1, simp length-set at (ap length p.put_u32-in-Resample.ensures))
+    let s = p.before.before in
+    omega (arith, room s.before.before c.in-Resample.is, simp length-set at (ap length c.put_u32-in-Resample.ensures))
 
 put-u32-requires-4 : tie.Need-put_u32-requires-in-DcBlock
-put-u32-requires-4 c κs = let s = c.before.before in omega (arith, room s.before.before.before s.self-in-DcBlock-1.given.1)
+put-u32-requires-4 c κs = let s = c.before in omega (arith, room s.before.before c.in-DcBlock.is)
 
 write-biquad-requires : tie.Need-write_biquad-requires
-write-biquad-requires c κs = let s = c.before.before in omega (arith, room s.before.before.before s.self-in-Biquad-1.given.1)
+write-biquad-requires c κs = let s = c.before in omega (arith, room s.before.before c.in-Biquad.is)
 
 returns : tie.Need-returns-in-Gain
 returns c =
     let p = c.before.before in
-    let q = p.before.before.before.before.self-1.given.0.0 in
+    let q = c.in-Gain.q15 in
     let e : to_z w32 (of_z w32 q) ≡ q = search rules in
-    stored p.before.before.before.before.before.before.before p.before.before.before.before.self-1.given.1 _ (p.put_u32.ensures ∙ rw (p.before.bits.ensures, e))
+    stored p.before.before.before.before.before c.in-Gain.is _ (c.put_u32.ensures ∙ rw (c.bits.ensures, e))
 
 returns-4 : tie.Need-returns-in-Resample
 returns-4 c =
     let p = c.before.before in
     let q = p.before.before.before.before in
-    stored q.before.before.before.before.before.before q.before.before.before.self-in-Resample-1.given.1 _ (p.put_u32-in-Resample-2.ensures ∙ rw q.put_u32-in-Resample.ensures)
+    stored q.before.before.before.before c.in-Resample.is _ (c.put_u32-in-Resample-2.ensures ∙ rw c.put_u32-in-Resample.ensures)
 
 returns-5 : tie.Need-returns-in-DcBlock
-returns-5 c = let p = c.before.before in stored p.before.before.before.before.before.before p.before.before.before.self-in-DcBlock-1.given.1 _ p.put_u32-in-DcBlock.ensures
+returns-5 c = let p = c.before.before in stored p.before.before.before.before c.in-DcBlock.is _ c.put_u32-in-DcBlock.ensures
 
 returns-6 : tie.Need-returns-in-Biquad
-returns-6 c = let p = c.before.before in stored p.before.before.before.before.before.before p.before.before.before.self-in-Biquad-1.given.1 _ p.write_biquad.ensures
+returns-6 c = let p = c.before.before in stored p.before.before.before.before c.in-Biquad.is _ c.write_biquad.ensures
 
 pub write_fields_spec : {M : Type 1} → statement M
 write_fields_spec = tie.close (tie.spec

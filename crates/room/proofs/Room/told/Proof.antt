@@ -6,5 +6,5 @@ use Rattle.room.proofs.Room.told.Tie as tie
 pub told_spec : {M : Type 1} → statement M
 told_spec = tie.close (tie.spec
     (λ c. search rules) (λ c. search rules) (λ c κs. search rules)
-    (λ c. rw c.before.self-1.given.1)
-    (λ c. rw (c.before.before.self-in-Refused-1.given.1, c.number.ensures)))
+    (λ c. rw c.in-Known.is)
+    (λ c. rw (c.in-Refused.is, c.number.ensures)))
