@@ -43,7 +43,7 @@ module _ (c : tie.After-begun-walk invariant-loop decreases-loop invariant-loop2
   s = c.before.before.before.before.before.before.before.before
 
   head : head_legal s.args.chain.format s.args.chain.count ≡ true
-  head = sym c.head_legal.ensures ∙ not-false _ c.if-not-head_legal.false
+  head = sym c.head_legal.ensures ∙ c.if-not-head_legal.false
 
   eight : length s.args.chain.stages ≡ 8
   eight = search (unmapped, rules)
@@ -85,9 +85,9 @@ process_spec = tie.close (tie.spec
     let a = c.args in
     with_told a.t1 a.format a.timestamp a.block.now a.a.now a.b.now _
     (refused_is a.t1 a.format a.timestamp a.block.now a.a.now a.b.now _ _ _ c.refused.ensures.0 c.refused.ensures.1
-    (head_refused a.t1 a.format _ _ (sym c.head_legal.ensures ∙ not-true _ c.if-not-head_legal.true))))
+    (head_refused a.t1 a.format _ _ (sym c.head_legal.ensures ∙ c.if-not-head_legal.true))))
     (λ c κs. search rules)
-    (λ c κs. let a = c.args in (head_parts a.t1.format a.t1.count (sym c.head_legal.ensures ∙ not-false _ c.if-not-head_legal.false)).channels)
+    (λ c κs. let a = c.args in (head_parts a.t1.format a.t1.count (sym c.head_legal.ensures ∙ c.if-not-head_legal.false)).channels)
     (λ c. asks_first _ _ _ _ _ _ _ _ (head c) (eight c) c.begun-walk.ensures)
     (λ c. search rules) (λ c. search rules)
     (λ c κs. asks_fits _ _ _ _ _ _ _ _ c.loop-i.invariant c.loop-i-test.true)

@@ -24,7 +24,7 @@ module _ (c : tie.Else-not-head_legal) where
   s = c.before.before.before
 
   head : head_legal s.args.chain.format s.args.chain.count ≡ true
-  head = sym c.head_legal.ensures ∙ not-false _ c.if-not-head_legal.false
+  head = sym c.head_legal.ensures ∙ c.if-not-head_legal.false
 
   eight : length s.args.chain.stages ≡ 8
   eight = search (unmapped, rules)
@@ -43,7 +43,7 @@ answers v =
 pub scratch_bytes_spec : {M : Type 1} → statement M
 scratch_bytes_spec = tie.close (tie.spec
     (λ c κs. search rules)
-    (λ c. with_value _ _ _ (scratch_refused _ _ (sym c.head_legal.ensures ∙ not-true _ c.if-not-head_legal.true)))
+    (λ c. with_value _ _ _ (scratch_refused _ _ (sym c.head_legal.ensures ∙ c.if-not-head_legal.true)))
     (λ c κs. let a = (s c).args in (head_parts a.chain.format a.chain.count (head c)).channels)
     (λ c κs. asks_begin _ _ _ _ _ _ _ _ (head c.before) (eight c.before) c.begun-start.ensures)
     (λ c κs. let e = c.before.before in let a = (s e).args in (head_parts a.chain.format a.chain.count (head e)).channels.0)

@@ -8,7 +8,7 @@ use Rattle.note_lines.proofs.line_size.Tie as tie
 pub line_size_spec : {M : Type 1} → statement M
 line_size_spec = tie.close (tie.spec
     (λ c κs. search rules)
-    (λ c. rw (sym c.of_note.ensures ∙ not-true _ c.if-not-of_note.true))
+    (λ c. rw (sym c.of_note.ensures ∙ c.if-not-of_note.true))
     (λ c. search rules)
     (λ c. search rules)
-    (λ c. rw (sym c.of_note.ensures ∙ not-false _ c.if-not-of_note.false)))
+    (λ c. rw (sym c.of_note.ensures ∙ c.if-not-of_note.false)))

@@ -12,10 +12,10 @@ use Rattle.note_lines.proofs.put_record.Statement.{statement}
 use Rattle.note_lines.proofs.put_record.Tie as tie
 
 none : (c : tie.Then-not-of_note) → of_note c.args.kind ≡ false
-none c = sym c.of_note.ensures ∙ not-true _ c.if-not-of_note.true
+none c = sym c.of_note.ensures ∙ c.if-not-of_note.true
 
 note : (c : tie.Else-not-of_note) → of_note c.args.kind ≡ true
-note c = sym c.of_note.ensures ∙ not-false _ c.if-not-of_note.false
+note c = sym c.of_note.ensures ∙ c.if-not-of_note.false
 
 room : (c : tie.Else-not-of_note) → c.args.to + (5 + 2 * length c.args.text.now) ≤ length c.args.out.now
 room c =

@@ -21,10 +21,10 @@ among : (c : tie.Else-before-ge8) → ltb 0 (8 - c.args.before) ≡ true
 among c = lt-ltb 0 (8 - c.args.before) (omega arith)
 
 is_within : (c : tie.Else-not-within) → settings_allowed c.args.found ≡ true
-is_within c = sym (within c.before.before.before) ∙ not-false _ c.if-not-within.false
+is_within c = sym (within c.before.before.before) ∙ c.if-not-within.false
 
 is-suited : (c : tie.Else-not-suited) → record_suits c.args.format c.args.found ≡ true
-is-suited c = sym (suited c.before.before.before) ∙ not-false _ c.if-not-suited.false
+is-suited c = sym (suited c.before.before.before) ∙ c.if-not-suited.false
 
 returns : tie.Need-returns-then-before-ge8
 unfolding stage_verdict
@@ -32,11 +32,11 @@ returns c = let e : 8 - c.args.before ≡ 0 = omega arith in rw e
 
 returns-2 : tie.Need-returns-then-not-within
 unfolding stage_verdict
-returns-2 c = rw (among c.before, sym (within c.before.before.before) ∙ not-true _ c.if-not-within.true)
+returns-2 c = rw (among c.before, sym (within c.before.before.before) ∙ c.if-not-within.true)
 
 returns-3 : tie.Need-returns-then-not-suited
 unfolding stage_verdict
-returns-3 c = rw (among c.before.before, is_within c.before, sym (suited c.before.before.before) ∙ not-true _ c.if-not-suited.true)
+returns-3 c = rw (among c.before.before, is_within c.before, sym (suited c.before.before.before) ∙ c.if-not-suited.true)
 
 returns-4 : tie.Need-returns
 unfolding stage_verdict

@@ -19,7 +19,7 @@ room : (c : tie.Start) (k : ℕ) → c.args.kind ≡ k → 4 + 4 * field_count k
 room c k e = rw e at c.requires.1
 
 six : (c : tie.In_default) → c.args.kind ≡ 6
-six c = let r = c.in-1.rest in last_kind c.args.kind c.requires.0 r.0.0.0.0.1 r.0.0.0.1 r.0.0.1 r.0.1 r.1
+six c = let r = c.in_default.in_default-own.rest in last_kind c.args.kind c.requires.0 r.0.0.0.0.1 r.0.0.0.1 r.0.0.1 r.0.1 r.1
 
 returns : tie.Need-returns-in-1
 unfolding record_of

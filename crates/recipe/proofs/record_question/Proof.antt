@@ -28,7 +28,7 @@ kind-is : (c : tie.After-known) → c.get_u16-kind.result ≡ kind_at (left_of c
 kind-is c = c.get_u16-kind.ensures
 
 is_known : (c : tie.Else-not-known) → known c.get_u16-kind.result ≡ true
-is_known c = sym c.known.ensures ∙ not-false _ c.if-not-known.false
+is_known c = sym c.known.ensures ∙ c.if-not-known.false
 
 told : (c : tie.Else-not-known) → known (kind_at (left_of c.before.before.before.before.before.before.before)) ≡ true
 told c = rw (kind-is c.before) at (is_known c)
@@ -48,7 +48,7 @@ returns-2 c = rw (four c.before.before, rw c.get_u16-length.ensures at (lt-leb 2
 returns-3 : tie.Need-returns-then-not-known
 unfolding record_verdict
 returns-3 c =
-    let k : known (kind_at (left_of c.before.before.before.before.before.before.before)) ≡ false = sym (ap known (kind-is c.before)) ∙ sym c.known.ensures ∙ not-true _ c.if-not-known.true in
+    let k : known (kind_at (left_of c.before.before.before.before.before.before.before)) ≡ false = sym (ap known (kind-is c.before)) ∙ sym c.known.ensures ∙ c.if-not-known.true in
     rw (four c.before.before.before.before.before, two c.before.before.before, k)
 
 returns-4 : tie.Need-returns-in-Refused
@@ -73,10 +73,10 @@ there : (c : tie.In_default) → let e = c.before.before.before.before.before.be
 there c = let e = c.before.before.before.before.before.before in ap (λ (n : ℕ). leb (2 + n) (length (left_of e.before.before.before))) c.get_u16-length.ensures
 
 returns-5 : tie.Need-returns-then-not-whole
-returns-5 c = rw (but_last c.before, sym (there c.before) ∙ not-true _ c.if-not-whole.true)
+returns-5 c = rw (but_last c.before, sym (there c.before) ∙ lt-leb _ _ c.if-not-whole.true)
 
 returns-6 : tie.Need-returns
-returns-6 c = rw (but_last c.before, sym (there c.before) ∙ not-false _ c.if-not-whole.false)
+returns-6 c = rw (but_last c.before, sym (there c.before) ∙ le-leb _ _ c.if-not-whole.false)
 
 pub record_question_spec : {M : Type 1} → statement M
 record_question_spec = tie.close (tie.spec

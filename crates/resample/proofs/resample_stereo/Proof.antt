@@ -40,7 +40,7 @@ ran c = rw c.first_position-num.ensures at c.run_stereo-d.ensures
 
 past-requires : tie.Need-past-phase-requires
 past-requires c κs =
-    let m = c.before.before.before.before in
+    let m = c.before.before.before.before.before in
     let p = m.before.before.before.before in
     let s = p.before.before.before.before in
     let a = c.args in
@@ -53,7 +53,7 @@ four_bytes s = omega (arith, s.requires.some, s.requires.whole)
 
 returns : tie.Need-returns
 returns c =
-    let right = c.before in
+    let right = c.before.before in
     let left = right.before in
     let m = left.before.before.before in
     let s = m.before.before.before.before.before.before.before.before in

@@ -20,7 +20,7 @@ module _ (c : tie.Else-not-head_legal) where
   s = c.before.before.before
 
   head : head_legal s.args.chain.format s.args.chain.count ≡ true
-  head = sym c.head_legal.ensures ∙ not-false _ c.if-not-head_legal.false
+  head = sym c.head_legal.ensures ∙ c.if-not-head_legal.false
 
   parts : Head s.args.chain.format s.args.chain.count
   parts = head_parts s.args.chain.format s.args.chain.count head
@@ -28,7 +28,7 @@ module _ (c : tie.Else-not-head_legal) where
 pub block_room_spec : {M : Type 1} → statement M
 block_room_spec = tie.close (tie.spec
     (λ c κs. search rules)
-    (λ c. block_told_lem _ _ _ (block_room_refused _ (head_illegal _ (sym c.head_legal.ensures ∙ not-true _ c.if-not-head_legal.true)) _))
+    (λ c. block_told_lem _ _ _ (block_room_refused _ (head_illegal _ (sym c.head_legal.ensures ∙ c.if-not-head_legal.true)) _))
     (λ c κs. (parts c).channels.1)
     (λ c κs. head c.before)
     (λ c κs. (parts c.before.before).channels.0)

@@ -20,12 +20,12 @@ module _ (c : tie.Else-not-head_legal) where
   s = c.before.before
 
   head : head_legal s.args.chain.format s.args.chain.count ≡ true
-  head = sym c.head_legal.ensures ∙ not-false _ c.if-not-head_legal.false
+  head = sym c.head_legal.ensures ∙ c.if-not-head_legal.false
 
 pub finish_room_spec : {M : Type 1} → statement M
 finish_room_spec = tie.close (tie.spec
     (λ c κs. search rules)
-    (λ c. finish_told_lem _ _ (finish_room_refused _ (head_illegal _ (sym c.head_legal.ensures ∙ not-true _ c.if-not-head_legal.true))))
+    (λ c. finish_told_lem _ _ (finish_room_refused _ (head_illegal _ (sym c.head_legal.ensures ∙ c.if-not-head_legal.true))))
     (λ c κs. head c)
     (λ c κs. search rules)
     (λ c.

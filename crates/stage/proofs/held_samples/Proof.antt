@@ -35,8 +35,8 @@ returns : tie.Need-returns
 returns c =
     let s = c.before.before.before in
     let two : length c.args.state.last ≡ 2 = search rules in
-    let f : SFits w16 (get_or c.args.state.last 0 (pos 0)) = record { sfits = c.left.given } in
-    let g : SFits w16 (get_or c.args.state.last 1 (pos 0)) = record { sfits = c.right.given } in
+    let f : SFits w16 (get_or c.args.state.last 0 (pos 0)) = record { sfits = c.left-1.given } in
+    let g : SFits w16 (get_or c.args.state.last 1 (pos 0)) = record { sfits = c.right-1.given } in
     (ap (λ (l : List ℤ). record { last = l; phase = c.args.state.phase; primed = c.args.state.primed }) (same c.args.state.last two f g), samples c.args.state.last two f g, two)
 
 pub held_samples_spec : {M : Type 1} → statement M

@@ -30,7 +30,7 @@ unfolding kind_of
 returns-5 c = rw (c.in-6.is, c.biquad_of.ensures)
 
 returns-6 : tie.Need-returns-in_default
-returns-6 c = let r = c.in-1.rest in sym (other_kind _ _ r.0.0.0.0.1 r.0.0.0.1 r.0.0.1 r.0.1 r.1)
+returns-6 c = let r = c.in_default.in_default-own.rest in sym (other_kind _ _ r.0.0.0.0.1 r.0.0.0.1 r.0.0.1 r.0.1 r.1)
 
 pub kind_of_spec : {M : Type 1} → statement M
 kind_of_spec = tie.close (tie.spec

@@ -14,7 +14,7 @@ use Rattle.word_block.proofs.asked.Tie as tie
 
 module _ (c : tie.Else-not-legal_head) where
   headed : legal_head c.args.words.now ≡ true
-  headed = sym c.legal_head.ensures ∙ not-false _ c.if-not-legal_head.false
+  headed = sym c.legal_head.ensures ∙ c.if-not-legal_head.false
 
 module _ (c : tie.After-count_of-count) where
   head : head_legal c.format_of-own.result c.count_of-count.result ≡ true
@@ -26,7 +26,7 @@ module _ (c : tie.After-count_of-count) where
 pub asked_spec : {M : Type 1} → statement M
 asked_spec = tie.close (tie.spec
     (λ c κs. search rules)
-    (λ c. refused_at _ (sym c.legal_head.ensures ∙ not-true _ c.if-not-legal_head.true) _ _ _)
+    (λ c. refused_at _ (sym c.legal_head.ensures ∙ c.if-not-legal_head.true) _ _ _)
     (λ c κs. stands_long _ (head_stands _ (headed c)))
     (λ c κs. stands_long _ (head_stands _ (headed c.before)))
     (λ c κs. (parts c).channels)

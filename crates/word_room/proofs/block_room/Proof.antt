@@ -13,12 +13,12 @@ use Rattle.word_room.proofs.block_room.Tie as tie
 
 module _ (c : tie.Else-not-legal_head) where
   headed : legal_head c.args.words.now ≡ true
-  headed = sym c.legal_head.ensures ∙ not-false _ c.if-not-legal_head.false
+  headed = sym c.legal_head.ensures ∙ c.if-not-legal_head.false
 
 pub block_room_spec : {M : Type 1} → statement M
 block_room_spec = tie.close (tie.spec
     (λ c κs. search rules)
-    (λ c. block_room_refused _ (head_illegal _ (sym c.legal_head.ensures ∙ not-true _ c.if-not-legal_head.true)) _)
+    (λ c. block_room_refused _ (head_illegal _ (sym c.legal_head.ensures ∙ c.if-not-legal_head.true)) _)
     (λ c κs. stands_long _ (head_stands _ (headed c)))
     (λ c κs. (own-parts _ (headed c.before) _ c.format_of-own.ensures).channels.1)
     (λ c κs. headed c.before.before)

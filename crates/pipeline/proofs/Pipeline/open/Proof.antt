@@ -26,7 +26,7 @@ abbrev decreases-loop : tie.decreases-loop-at
 decreases-loop format recipe stages₀ reaching₀ count₀ at₀ stages reaching count at = length recipe - at
 
 format-allowed : (c : tie.Else-not-allowed invariant-loop decreases-loop) → format_allowed c.args.format ≡ true
-format-allowed c = sym c.allowed.ensures ∙ not-false _ c.if-not-allowed.false
+format-allowed c = sym c.allowed.ensures ∙ c.if-not-allowed.false
 
 -- the answer to the bytes that are left
 read_is : (c : tie.After-read-answer invariant-loop decreases-loop) → c.read-answer.result ≡ read_record (drop c.loop-at.at c.args.recipe.now)
@@ -67,7 +67,7 @@ taken c = sym c.stage_of-made.ensures ∙ c.in-Stage-made.is
 returns : tie.Need-returns-then-not-allowed invariant-loop decreases-loop
 returns c =
     let s = c.before.before.before.before in
-    c.unopened.ensures ∙ sym (call_format c.args.format c.args.recipe.now (sym c.allowed.ensures ∙ not-true _ c.if-not-allowed.true))
+    c.unopened.ensures ∙ sym (call_format c.args.format c.args.recipe.now (sym c.allowed.ensures ∙ c.if-not-allowed.true))
 
 loop-holds : tie.Need-loop-at-init invariant-loop decreases-loop
 loop-holds c = let s = c.before.before.before.before in rw c.no_stages-stages.ensures (opens_start c.args.format c.args.recipe.now (format-allowed c.before))
