@@ -177,7 +177,7 @@ CHAIN = re.compile(r"(?<![\w.'-])([\w'-]+)((?:\.before)+)(?![\w.'-])")
 LET = re.compile(r"let ([\w'-]+) = ([\w'-]+)((?:\.before)+)(?= in)")
 
 
-def rechain(line, names, places, roots):
+def rechain(line, names, places, roots, leads):
     """A line whose chains of steps back lead to a place and no further, counted as today's places stand."""
 
     def one(m):
@@ -185,6 +185,15 @@ def rechain(line, names, places, roots):
         found = steps(names, places[y], k) if y in places else None
         return m.group(0) if found is None else y + ".before" * found[0]
 
+    for m in re.finditer(r"let ([\w'-]+) = ([\w'-]+) [\w'.-]+(?= in)", line):
+        if m.group(2) in leads:
+            places[m.group(1)] = (leads[m.group(2)][1],) * 2
+
+    def called(m):
+        found = steps(names, (leads[m.group(1)][1],) * 2, m.group(3).count(".before")) if m.group(1) in leads else None
+        return m.group(0) if found is None else f"({m.group(1)} {m.group(2)})" + ".before" * found[0]
+
+    line = re.sub(r"\(([\w'-]+) ([\w'.-]+)\)((?:\.before)+)(?![\w.'-])", called, line)
     pos, new = 0, ""
     for m in LET.finditer(line):
         new += CHAIN.sub(one, line[pos:m.start()])
@@ -212,7 +221,19 @@ def rechained(text, names):
     head, spec, tail = text.partition("tie.close (tie.spec")
     places, needs_of, roots = {}, {}, {}
     lines = head.split("\n")
+    leads = {}
     for n, line in enumerate(lines):
+        m = re.match(r"(?:abbrev )?([\w'-]+) : tie\.([A-Z][\w'-]*)(?: [^→]*)? → tie\.([A-Z][\w'-]*)", line)
+        if m and at(names, m.group(2)) and at(names, m.group(3)):
+            leads[m.group(1)] = (at(names, m.group(2))[0], at(names, m.group(3))[0])
+        m = re.match(r"([\w'-]+) (\w+) = \2((?:\.before)+)$", line)
+        if m and m.group(1) in leads:
+            back, i = 0, leads[m.group(1)][0]
+            while i is not None and i != leads[m.group(1)][1]:
+                i, back = names.out_of[i], back + 1
+            if i is not None:
+                lines[n] = f"{m.group(1)} {m.group(2)} = {m.group(2)}" + ".before" * back
+                continue
         if line[:1] not in (" ", "", ")"):
             places, roots = {}, {}
             m = re.match(r"([\w'-]+) : tie\.Need-([\w'-]+)", line)
@@ -229,7 +250,7 @@ def rechained(text, names):
         for m in re.finditer(r"\((\w+) : tie\.([A-Z][\w'-]*)", line):
             if at(names, m.group(2)):
                 places[m.group(1)] = at(names, m.group(2))
-        lines[n] = rechain(line, names, places, roots)
+        lines[n] = rechain(line, names, places, roots, leads)
     out, i, k, first = "\n".join(lines) + spec, 0, 0, 2 * len(names.loops)
     while i < len(tail):
         if tail[i] != "(" or tail[i - 1:i] not in (" ", "\n"):
@@ -253,7 +274,7 @@ def rechained(text, names):
         need = k - first
         if m and 0 <= need < len(names.asked) and names.asked[need] is not None:
             places, roots = {m.group(1): (names.asked[need],) * 2}, {}
-            argument = "\n".join(rechain(line, names, places, roots) for line in argument.split("\n"))
+            argument = "\n".join(rechain(line, names, places, roots, leads) for line in argument.split("\n"))
         out += argument
         k, i = k + 1, j
     return out

@@ -17,7 +17,7 @@ returns c =
     let l = c.before.before.before.before.before.before in
     let s = l.before.before in
     let two : length c.args.last ≡ 2 = search rules in
-    let f : SFits w16 (get_or c.args.last 0 (pos 0)) = record { sfits = c.left.given } in
+    let f : SFits w16 (get_or c.args.last 0 (pos 0)) = record { sfits = c.left-1.given } in
     mono_fronted c.args.last c.args.out.now two c.args.channels _ c.if-channels-eq1.true (omega (arith, c.requires))
     (c.put_i16.ensures ∙ ap (λ (z : ℤ). stored c.args.out.now 0 z) (to_z-of_z f))
 
@@ -28,8 +28,8 @@ returns-2 c =
     let r = p.before.before in
     let s = r.before.before.before in
     let two : length c.args.last ≡ 2 = search rules in
-    let f : SFits w16 (get_or c.args.last 0 (pos 0)) = record { sfits = c.left.given } in
-    let g : SFits w16 (get_or c.args.last 1 (pos 0)) = record { sfits = c.right.given } in
+    let f : SFits w16 (get_or c.args.last 0 (pos 0)) = record { sfits = c.left-1.given } in
+    let g : SFits w16 (get_or c.args.last 1 (pos 0)) = record { sfits = c.right-1.given } in
     stereo_fronted c.args.last c.args.out.now two c.args.channels _ _ (omega (arith, c.requires, c.if-channels-eq1.false)) (omega (arith, c.requires, c.if-channels-eq1.false))
     (c.put_i16.ensures ∙ ap (λ (z : ℤ). stored c.args.out.now 0 z) (to_z-of_z f))
     (c.put_i16-2.ensures ∙ ap (λ (z : ℤ). stored c.put_i16.new.s 2 z) (to_z-of_z g))

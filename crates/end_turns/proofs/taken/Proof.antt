@@ -32,7 +32,7 @@ taken_spec = tie.close (tie.spec
     (λ c κs. let t = c.before in let s = start t.before in
     (stereo_turn_asks s.args.format s.args.s (asks s.args.format s.args.s s.requires) c.in-MonoToStereo.is).asks)
     (λ c. let t = c.before.before.before.before in let s = start t.before in
-    record { fits = omega (arith, stereo_long s.args.format s.args.s (asks s.args.format s.args.s s.requires) c.in-MonoToStereo.is, s.good) })
+    record { fits = omega (arith, stereo_long s.args.format s.args.s (asks s.args.format s.args.s s.requires) c.in-MonoToStereo.is, s.well_formed) })
     (λ c. search rules)
     (λ c κs. let t = c.before in let s = start t.before in
     (mono_turn_asks s.args.format s.args.s (asks s.args.format s.args.s s.requires) c.in-StereoToMono.is).asks)
@@ -41,7 +41,7 @@ taken_spec = tie.close (tie.spec
     (resample-turn-asks s.args.format s.args.s (asks s.args.format s.args.s s.requires) _ _ c.in-Resample.is c.held_samples-held.ensures.0 c.held_samples-held.ensures.1).asks)
     (λ c. search rules)
     (λ c. let d = c.before.before.before.before in let m = d.before.before in let t = m.before in let s = start t.before in
-    record { fits = omega (arith, resample-long s.args.format s.args.s (asks s.args.format s.args.s s.requires) _ _ c.in-Resample.is c.held_samples-held.ensures.0 c.held_samples-held.ensures.1 c.process-t.result _ (does c.process-t.ensures), s.good) })
+    record { fits = omega (arith, resample-long s.args.format s.args.s (asks s.args.format s.args.s s.requires) _ _ c.in-Resample.is c.held_samples-held.ensures.0 c.held_samples-held.ensures.1 c.process-t.result _ (does c.process-t.ensures), s.well_formed) })
     (λ c. search rules)
     (λ c κs. let t = c.before in let s = start t.before in
     (dc_turn_asks s.args.format s.args.s (asks s.args.format s.args.s s.requires) _ c.in-DcBlock.is).asks)

@@ -27,4 +27,4 @@ begun_spec = tie.close (tie.spec
     (λ c κs. search rules) (λ c κs. search rules)
     (λ c. record { fits = omega (arith, small _ 0 _ 0 _ _ 0 0 c.block_frames-frames.ensures c.frame_bytes.ensures c.requires.1) })
     (λ c κs. search rules) (λ c κs. search rules)
-    (λ c. walk_is _ _ _ _ _ _ _ _ c.block_frames-frames.ensures c.frame_bytes.ensures c.copy_room.ensures c.first_short.ensures))
+    (λ c. walk_is _ _ _ _ _ _ _ _ c.block_frames-frames.ensures c.frame_bytes.ensures c.copy_room-room.ensures c.first_short.ensures))

@@ -14,10 +14,10 @@ use Rattle.stage_words.proofs.put_state.Tie as tie
 
 -- both samples, and their bits
 left-fits : (c : tie.After-right-1) → SFits w16 (get_or c.args.s.last 0 (pos 0))
-left-fits c = record { sfits = c.left.given }
+left-fits c = record { sfits = c.left-1.given }
 
 right-fits : (c : tie.After-right-1) → SFits w16 (get_or c.args.s.last 1 (pos 0))
-right-fits c = record { sfits = c.right.given }
+right-fits c = record { sfits = c.right-1.given }
 
 left-bits : (c : tie.After-sample_bits) → c.sample_bits.result ≡ of_z w16 (get_or c.args.s.last 0 (pos 0))
 left-bits c = c.sample_bits.ensures ∙ ap (of_z w16) (read_back (left-fits c.before))

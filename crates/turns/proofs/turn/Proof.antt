@@ -31,7 +31,7 @@ turn_spec = tie.close (tie.spec
     (λ c κs. let t = c.before.before in let s = start t.before in
     stereo_turn_asks s.args.format s.args.s s.requires c.in-MonoToStereo.is)
     (λ c. let t = c.before.before.before.before.before.before.before in let s = start t.before in
-    ⊎_elim (λ l. record { fits = omega (arith, l, s.good) }) (λ l. record { fits = omega (arith, l, s.good) })
+    ⊎_elim (λ l. record { fits = omega (arith, l, s.well_formed) }) (λ l. record { fits = omega (arith, l, s.well_formed) })
     (either_half s.args.i _ s.args.a.now s.args.b.now (stereo_long s.args.format s.args.s s.requires c.in-MonoToStereo.is)))
     (λ c. search rules)
     (λ c κs. let t = c.before.before in let s = start t.before in
@@ -41,7 +41,7 @@ turn_spec = tie.close (tie.spec
     resample-turn-asks s.args.format s.args.s s.requires _ _ c.in-Resample.is c.held_samples-held.ensures.0 c.held_samples-held.ensures.1)
     (λ c. search rules)
     (λ c. let d = c.before.before.before.before.before.before in let m = d.before.before.before in let t = m.before in let s = start t.before in
-    ⊎_elim (λ l. record { fits = omega (arith, l, s.good) }) (λ l. record { fits = omega (arith, l, s.good) })
+    ⊎_elim (λ l. record { fits = omega (arith, l, s.well_formed) }) (λ l. record { fits = omega (arith, l, s.well_formed) })
     (either_half s.args.i _ s.args.a.now s.args.b.now (resample-long s.args.format s.args.s s.requires _ _ c.in-Resample.is c.held_samples-held.ensures.0 c.held_samples-held.ensures.1 c.resample_turn-t.result _ c.resample_turn-t.ensures)))
     (λ c. search rules)
     (λ c κs. let t = c.before.before in let s = start t.before in

@@ -37,7 +37,7 @@ read_is c =
 
 -- the loop, and the entry
 abbrev loop_of : tie.In-Entry invariant-loop decreases-loop → tie.At-loop-at invariant-loop decreases-loop
-loop_of c = c.before.before.before.before.before.before
+loop_of c = c.before.before.before.before
 
 abbrev entry : tie.At-loop-at invariant-loop decreases-loop → tie.Start invariant-loop decreases-loop
 entry l = l.before.before.before.before.before
@@ -103,19 +103,19 @@ returns-3 c =
 
 -- the record of a stage that is taken
 abbrev record_of : tie.In-Stage-made invariant-loop decreases-loop → tie.In-Stage invariant-loop decreases-loop
-record_of c = c.before.before.before.before
+record_of c = c.before.before
 
 sized : (c : tie.After-size-at invariant-loop decreases-loop)
-    → (loop_of (record_of c.before.before.before).before.before.before).loop-at.at + c.size-at.result ≤ length (entry (loop_of (record_of c.before.before.before).before.before.before)).args.recipe.now
+    → (loop_of (record_of c.before.before.before).before).loop-at.at + c.size-at.result ≤ length (entry (loop_of (record_of c.before.before.before).before)).args.recipe.now
 sized c =
     let m = record_of c.before.before.before in
-    let k = m.before.before.before in
+    let k = m.before in
     rw c.size-at.ensures (opens-size (loop_of k).loop-at.invariant (left-some k) (recorded m))
 
-room : (c : tie.After-new-next invariant-loop decreases-loop) → (loop_of (record_of c.before).before.before.before).loop-at.count < 8
+room : (c : tie.After-new-next invariant-loop decreases-loop) → (loop_of (record_of c.before).before).loop-at.count < 8
 room c =
     let m = record_of c.before in
-    let k = m.before.before.before in
+    let k = m.before in
     opens-room (loop_of k).loop-at.invariant (left-some k) (recorded m) (taken c.before)
 
 bytes_fit : (s : tie.Start invariant-loop decreases-loop) → length s.args.recipe.now < 2 ^ 64
@@ -133,14 +133,14 @@ loop-less c = let z = note-there c in let t = left-some c.before in omega arith
 add-at-3 : tie.Need-overflow_add-at-in-Stage invariant-loop decreases-loop
 add-at-3 c =
     let z = sized c in
-    let b = bytes_fit (entry (loop_of (record_of c.before.before.before).before.before.before)) in
+    let b = bytes_fit (entry (loop_of (record_of c.before.before.before).before)) in
     omega arith
 
 loop-less-2 : tie.Need-loop-at-smaller invariant-loop decreases-loop
 loop-less-2 c =
     let m = record_of c.before.before.before in
     let z = sized c in
-    let t = left-some m.before.before.before in
+    let t = left-some m.before in
     let f = record_four m.in-Stage.record in
     let e = c.size-at.ensures in
     omega arith
@@ -149,7 +149,7 @@ loop-again-2 : tie.Need-loop-at-preserved invariant-loop decreases-loop
 loop-again-2 c =
     let t = c.before.before.before in
     let m = record_of t in
-    let k = m.before.before.before in
+    let k = m.before in
     rw (c.new-next.ensures, c.format_after-reaching.ensures, c.size-at.ensures)
     (opens-next (loop_of k).loop-at.invariant (left-some k) (recorded m) (taken t))
 

@@ -19,7 +19,7 @@ unfolding write_call write_verdict
 returns c = let a = c.args in concluded (write_verdict a.self (length a.out.now)) (recipe_of (stages_of a.self)) a.out.now _ _ (Refused _) (rw (lt-leb _ 8 c.if-count-gt8.true)) refl
 
 abbrev start : tie.After-require_room-room → tie.Start
-start c = c.before.before.before.before.before.before
+start c = c.before.before.before.before.before
 
 -- where room was asked: the verdict is what `require_room` answered
 asked : (c : tie.After-require_room-room) → let a = (start c).args in
