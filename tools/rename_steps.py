@@ -111,13 +111,13 @@ def turn_path(parts, names, aliases, miss):
             rest = rest[arm:]
         elif last in VARIABLES or last in names.loops:
             out.append("invariant" if p == "inv" else p.replace("-", "_"))
-        elif p in ("auto", "new") and last in names.of_call and rest and rest[0] in ("0", "1"):
+        elif p in ("auto", "new", "last") and last in names.of_call and rest and rest[0] in ("0", "1"):
             # nested pairs, one for each parameter
             k = 0
             while rest and rest[0] == "1":
                 k, rest = k + 1, rest[1:]
             rest = rest[1:] if rest[:1] == ["0"] else rest
-            out += [p, names.of_call[last][k]]
+            out += ["new" if p == "last" else p, names.of_call[last][k]]
             before = p
         elif last in OWN:
             out.append(p.replace("-", "_") if p.replace("-", "_") in RUST else p)

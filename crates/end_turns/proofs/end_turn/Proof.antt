@@ -19,7 +19,7 @@ module _ (t : tie.After-arrived-t) where
   frames = frames_are_frames s.args.format.channels s.args.input.now (all_by_index (λ (b : ℕ). b < 256) 0 s.args.input.now (λ i h. (t.shared_slice_known-1.given i).fits))
 
   abbrev out : List ℕ
-  out = t.arrived-t.last.1.1.1.0
+  out = t.arrived-t.new.out
 
   there : t.arrived-t.result.len ≤ length out
   there = within s.args.format s.args.s s.args.input.now s.args.out.now s.requires t.arrived-t.result.memory t.arrived-t.result.len t.arrived-t.result.clipped out t.arrived-t.ensures frames

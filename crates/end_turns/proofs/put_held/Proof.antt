@@ -43,7 +43,7 @@ ends c =
     let p = z.before.before in
     let e = p.before.before in
     let a = (start c).args in
-    on-it a.channels a.r a.s c.if-r.false (c.if-not-s.false) c.if-s-ne0.false
+    on-it a.channels a.r a.s c.if-r.false (not-false _ c.if-not-s.false) c.if-s-ne0.false
 
 room : (ch : ℕ) (fs : List Frame) (f : Frame) (n : ℕ) → fs ≡ f ∷ [] → length fs * (ch * 2) ≤ n → ch * 2 ≤ n
 room ch fs f n e h = omega (arith, ap (λ (l : List Frame). length l * (ch * 2)) e)
@@ -52,9 +52,9 @@ pub put_held_spec : {M : Type 1} → statement M
 put_held_spec = tie.close (tie.spec
     (λ c. let a = c.args in none_fronted _ a.out.now (equal a.channels a.r a.s c.if-r.true))
     (λ c. let e = c.before.before in let a = c.args in
-    none_fronted _ a.out.now (not_held a.channels a.r a.s c.if-r.false (c.if-not-s.true)))
+    none_fronted _ a.out.now (not_held a.channels a.r a.s c.if-r.false (not-true _ c.if-not-s.true)))
     (λ c. let p = c.before.before in let e = p.before.before in let a = c.args in
-    none_fronted _ a.out.now (not-on-it a.channels a.r a.s c.if-r.false (c.if-not-s.false) c.if-s-ne0.true))
+    none_fronted _ a.out.now (not-on-it a.channels a.r a.s c.if-r.false (not-false _ c.if-not-s.false) c.if-s-ne0.true))
     (λ c κs. let s = start c in (s.requires.0, room s.args.channels _ (take s.args.channels s.args.s.last) _ (ends c) s.requires.1))
     (λ c. search rules)
     (λ c. let m = c.before.before.before in let a = (start m).args in

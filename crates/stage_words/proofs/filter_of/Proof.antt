@@ -14,7 +14,7 @@ returns c =
     let c3 = c4.before in
     let c2 = c3.before in
     let c1 = c2.before in
-    rw (c1.Float-at.ensures, c.float_at-2.ensures, c.float_at-3.ensures, c.float_at-4.ensures, c.float_at-5.ensures, c.float_at-6.ensures, c.float_at-7.ensures, c.float_at-8.ensures)
+    rw (c1.float_at.ensures, c.float_at-2.ensures, c.float_at-3.ensures, c.float_at-4.ensures, c.float_at-5.ensures, c.float_at-6.ensures, c.float_at-7.ensures, c.float_at-8.ensures)
 
 pub filter_of_spec : {M : Type 1} → statement M
 filter_of_spec = tie.close (tie.spec

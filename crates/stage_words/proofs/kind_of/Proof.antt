@@ -23,7 +23,7 @@ returns-3 c = rw c.in-4.is
 
 returns-4 : tie.Need-returns-in-5
 unfolding kind_of
-returns-4 c = rw (c.in-5.is, c.Float-at.ensures)
+returns-4 c = rw (c.in-5.is, c.float_at.ensures)
 
 returns-5 : tie.Need-returns-in-6
 unfolding kind_of
