@@ -1,7 +1,6 @@
 -- `block::process` meets its contract: THE BLOCK CALL. Assumes nothing.
 use borrow.Author.Rules.{rules}
 use borrow.Author.Tests.{not-true, not-false}
-use mathlib.Core.Logic.{⊎_elim}
 use mathlib.Core.Path.{◌≡◌, sym, ap, ◌∙◌}
 use mathlib.Core.Bool.{true}
 use Prim.Native.Nat.{ℕ, ◌-◌, ◌<◌}
@@ -22,6 +21,7 @@ use Rattle.block.specs.laws.Reaching.{shorter_a}
 use Rattle.block.specs.laws.Stages.{next_less, with_stages, Plays, turn-asks, sum_fits, stored, stayed, at_end, clips_end, plays-first, copy_room_lem, length-first}
 use Rattle.block.specs.laws.Concluding.{head_refused, refused_is, concludes}
 use Rattle.block.proofs.Telling.{with_told}
+use Rattle.block.proofs.process.Lts.{then-remembers, else-remembers}
 use Rattle.block.proofs.process.Statement.{statement}
 use Rattle.block.proofs.process.Tie as tie
 
@@ -53,13 +53,13 @@ module _ (c : tie.After-begun-walk invariant-loop decreases-loop invariant-loop2
 
 -- ---- where they are answered
 asked_all : (v : tie.After-verdict-verdict invariant-loop decreases-loop invariant-loop2 decreases-loop2) → let b = v.before.before.before in let a = (s b).args in
-    block_verdict a.t1 a.format (length a.block.now) (shorter a.a.now a.b.now) ≡ v.verdict-verdict.result
+    block_verdict a.chain a.format (length a.block.now) (shorter a.a.now a.b.now) ≡ v.verdict-verdict.result
 asked_all v =
     let l = v.before.before in
     let b = l.before in
     let a = (s b).args in
-    ap (block_verdict a.t1 a.format (length a.block.now)) (sym v.shorter_of-shorter.ensures)
-    ∙ walk_verdict a.t1 a.format (length a.block.now) _ _ _ _ (head b) (eight b) v.begun-walk.ensures
+    ap (block_verdict a.chain a.format (length a.block.now)) (sym v.shorter_of-shorter.ensures)
+    ∙ walk_verdict a.chain a.format (length a.block.now) _ _ _ _ (head b) (eight b) v.begun-walk.ensures
     (asks_end _ _ _ _ _ _ _ _ v.loop-i.invariant v.loop-i-test.false) v.verdict-verdict.ensures
 
 -- ---- where the block is accepted
@@ -83,11 +83,11 @@ process_spec = tie.close (tie.spec
     (λ c κs. search rules) (λ c κs. search rules)
     (λ c.
     let a = c.args in
-    with_told a.t1 a.format a.timestamp a.block.now a.a.now a.b.now _
-    (refused_is a.t1 a.format a.timestamp a.block.now a.a.now a.b.now _ _ _ c.refused.ensures.0 c.refused.ensures.1
-    (head_refused a.t1 a.format _ _ (sym c.head_legal.ensures ∙ c.if-not-head_legal.true))))
+    with_told a.chain a.format a.timestamp a.block.now a.a.now a.b.now _
+    (refused_is a.chain a.format a.timestamp a.block.now a.a.now a.b.now _ _ _ c.refused.ensures.0 c.refused.ensures.1
+    (head_refused a.chain a.format _ _ (sym c.head_legal.ensures ∙ c.if-not-head_legal.true))))
     (λ c κs. search rules)
-    (λ c κs. let a = c.args in (head_parts a.t1.format a.t1.count (sym c.head_legal.ensures ∙ c.if-not-head_legal.false)).channels)
+    (λ c κs. let a = c.args in (head_parts a.chain.format a.chain.count (sym c.head_legal.ensures ∙ c.if-not-head_legal.false)).channels)
     (λ c. asks_first _ _ _ _ _ _ _ _ (head c) (eight c) c.begun-walk.ensures)
     (λ c. search rules) (λ c. search rules)
     (λ c κs. asks_fits _ _ _ _ _ _ _ _ c.loop-i.invariant c.loop-i-test.true)
@@ -98,17 +98,17 @@ process_spec = tie.close (tie.spec
     (λ c.
     let v = c.before.before in
     let a = (s v.before.before.before).args in
-    with_told a.t1 a.format a.timestamp a.block.now a.a.now a.b.now _
-    (refused_is a.t1 a.format a.timestamp a.block.now a.a.now a.b.now _ _ _ c.refused-in-Refused.ensures.0 c.refused-in-Refused.ensures.1 (asked_all v ∙ c.in-Refused.is)))
+    with_told a.chain a.format a.timestamp a.block.now a.a.now a.b.now _
+    (refused_is a.chain a.format a.timestamp a.block.now a.a.now a.b.now _ _ _ c.refused-in-Refused.ensures.0 c.refused-in-Refused.ensures.1 (asked_all v ∙ c.in-Refused.is)))
     (λ c. search rules)
     (λ c κs.
     let e = c.before in
     let a = (s (b e)).args in
-    λ z. omega (arith, copy_room_lem a.t1 a.block.now a.a.now a.b.now z (takes e), shorter_a a.a.now a.b.now))
+    λ z. omega (arith, copy_room_lem a.chain a.block.now a.a.now a.b.now z (takes e), shorter_a a.a.now a.b.now))
     (λ c.
     let e = c.before.before.before.before in
     let a = (s (b e)).args in
-    plays-first a.t1 a.block.now a.a.now a.b.now (takes e) (eight (b e)) (bytes (b e)) _ _ c.copy_unstaged.ensures (b e).shorter_of-shorter.ensures)
+    plays-first a.chain a.block.now a.a.now a.b.now (takes e) (eight (b e)) (bytes (b e)) _ _ c.copy_unstaged.ensures (b e).shorter_of-shorter.ensures)
     (λ c. search rules) (λ c. search rules)
     (λ c κs. turn-asks _ _ _ _ _ _ _ _ _ _ _ _ c.loop-i-2.invariant c.loop-i-2-test.true)
     (λ c κs. search rules) (λ c. search rules) (λ c. search rules)
@@ -125,21 +125,21 @@ process_spec = tie.close (tie.spec
     let j = c.before.before.before in
     let t = j.before.before.before.before.before.before in
     let l = t.before.before.before.before.before in
-    ⊎_elim
-    (λ w. stored _ _ _ _ _ _ _ _ _ _ _ _ c.loop-i-2.invariant c.loop-i-2-test.true _ _ _ _ _ c.turn-t.ensures c.format_after-reaching.ensures _ c.next_stage-i.ensures _ w.2)
-    (λ w. stayed _ _ _ _ _ _ _ _ _ _ _ _ c.loop-i-2.invariant c.loop-i-2-test.true _ _ _ _ _ c.turn-t.ensures c.format_after-reaching.ensures _ c.next_stage-i.ensures _ w.1 (sym c.remembers.ensures ∙ w.0.left))
-    c.if-remembers.branch)
+    elim c.if-remembers.branch [
+      then-remembers w ↦ stored _ _ _ _ _ _ _ _ _ _ _ _ c.loop-i-2.invariant c.loop-i-2-test.true _ _ _ _ _ c.turn-t.ensures c.format_after-reaching.ensures _ c.next_stage-i.ensures _ w.chain-is
+    | else-remembers w ↦ stayed _ _ _ _ _ _ _ _ _ _ _ _ c.loop-i-2.invariant c.loop-i-2-test.true _ _ _ _ _ c.turn-t.ensures c.format_after-reaching.ensures _ c.next_stage-i.ensures _ w.chain-is (sym c.remembers.ensures ∙ w.if-remembers.false)
+    ])
     (λ c κs. search rules) (λ c κs. search rules) (λ c κs. search rules)
     (λ c.
     let l = c.before.before.before.before in
     let e = l.before.before.before.before.before in
     let a = (s (b e)).args in
-    c.loop-i-2.invariant.same_a ∙ length-first a.t1 a.block.now a.a.now a.b.now (takes e) (eight (b e)) (bytes (b e)) _ _ c.copy_unstaged.ensures (b e).shorter_of-shorter.ensures)
+    c.loop-i-2.invariant.same_a ∙ length-first a.chain a.block.now a.a.now a.b.now (takes e) (eight (b e)) (bytes (b e)) _ _ c.copy_unstaged.ensures (b e).shorter_of-shorter.ensures)
     (λ c. c.loop-i-2.invariant.same_b)
     (λ c.
     let l = c.before.before.before.before in
     let e = l.before.before.before.before.before in
     let a = (s (b e)).args in
-    with_told a.t1 a.format a.timestamp a.block.now a.a.now a.b.now _
-    (concludes a.t1 a.format a.timestamp a.block.now a.a.now a.b.now (takes e) (eight (b e)) (bytes (b e)) _ c.copy_unstaged.ensures _ _ _ _
+    with_told a.chain a.format a.timestamp a.block.now a.a.now a.b.now _
+    (concludes a.chain a.format a.timestamp a.block.now a.a.now a.b.now (takes e) (eight (b e)) (bytes (b e)) _ c.copy_unstaged.ensures _ _ _ _
     (at_end _ _ _ _ _ _ _ _ _ _ _ _ c.loop-i-2.invariant c.loop-i-2-test.false) _ (clips_end _ _ _ _ _ _ _ _ _ _ _ _ c.loop-i-2.invariant c.loop-i-2-test.false) c.loop-i-2.chain c.loop-i-2.invariant.chain _ _ _ c.count_up-blocks.ensures c.count_empty-empty_blocks.ensures c.answered-answer.ensures (accepted e))))

@@ -57,7 +57,7 @@ module _ (c : tie.After-format_after-format invariant-loop decreases-loop) where
   l = at turned
 
   abbrev after : Halves
-  after = record { a = turned.turn-t.last.1.1.1.1.0; b = turned.turn-t.last.1.1.1.1.1.0 }
+  after = record { a = turned.turn-t.new.a; b = turned.turn-t.new.b }
 
   sized : Sized (record { a = l.loop-i.a; b = l.loop-i.b }) after
   sized = let v = l.loop-i.invariant in sized-out _ _ _ _ _ _ _ _ _ _ no_stage v.5 (more turned) v.2 v.1 (room_a l) (room_b l) _ _ _ _ turned.turn-t.ensures c.format_after-format.ensures

@@ -34,7 +34,7 @@ module _ (p : tie.After-play-done) where
   stood = finishes_stands w s.args.a.now s.args.b.now s.requires
 
   abbrev played : FinishResult
-  played = record { chain = p.play-done.result.chain; answer = p.play-done.result.answer; a = p.play-done.last.1.0; b = p.play-done.last.1.1.0 }
+  played = record { chain = p.play-done.result.chain; answer = p.play-done.result.answer; a = p.play-done.new.a; b = p.play-done.new.b }
 
   played_is : played ≡ finished (chain_of_words w) (halves s.args.a.now s.args.b.now)
   played_is = p.play-done.ensures ∙ ap (λ (c : Pipeline). finished c (halves s.args.a.now s.args.b.now)) o.chain_of-own.ensures.0
