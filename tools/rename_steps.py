@@ -221,7 +221,7 @@ def rechained(text, names):
     head, spec, tail = text.partition("tie.close (tie.spec")
     places, needs_of, roots = {}, {}, {}
     lines = head.split("\n")
-    leads = {}
+    leads, typed, module = {}, {}, None
     for n, line in enumerate(lines):
         m = re.match(r"(?:abbrev )?([\w'-]+) : tie\.([A-Z][\w'-]*)(?: [^→]*)? → tie\.([A-Z][\w'-]*)", line)
         if m and at(names, m.group(2)) and at(names, m.group(3)):
@@ -234,8 +234,25 @@ def rechained(text, names):
             if i is not None:
                 lines[n] = f"{m.group(1)} {m.group(2)} = {m.group(2)}" + ".before" * back
                 continue
+        m = re.match(r"module _ \((\w+) : tie\.([A-Z][\w'-]*)", line)
+        if m:
+            module = at(names, m.group(2))
+        m = re.match(r"  (?:abbrev )?([\w'-]+) : tie\.([A-Z][\w'-]*)(?! [^→]*→)", line)
+        if m and at(names, m.group(2)):
+            typed[m.group(1)] = at(names, m.group(2))
+        m = re.match(r"  ([\w'-]+) = ([\w'-]+)((?:\.before)+)$", line)
+        if m and m.group(1) in typed and m.group(2) in places:
+            back, i, to = 0, places[m.group(2)][1], typed[m.group(1)][0]
+            while i is not None and i != to:
+                i, back = names.out_of[i], back + 1
+            if i is not None:
+                lines[n] = f"  {m.group(1)} = {m.group(2)}" + ".before" * back
+                places[m.group(1)] = (to, to)
+                if module:
+                    leads[m.group(1)] = (module[0], to)
+                continue
         if line[:1] not in (" ", "", ")"):
-            places, roots = {}, {}
+            places, roots, typed = {}, {}, {}
             m = re.match(r"([\w'-]+) : tie\.Need-([\w'-]+)", line)
             if m and names.need_at.get(m.group(2)) is not None:
                 needs_of[m.group(1)] = (names.need_at[m.group(2)],) * 2

@@ -44,7 +44,7 @@ module _ (t : tie.After-turn-t invariant-loop decreases-loop) where
   at = t.before.before.before.before.before
 
   more : at.loop-i.i < (start at).args.chain.count
-  more = t.loop-i-test.taken
+  more = t.loop-i-test.true
 
   sum : at.loop-i.clipped + t.turn-t.result.clipped ≤ 38400000000000
   sum = let v = at.loop-i.invariant in sum_fits _ _ _ _ _ _ _ _ _ _ no_stage v.5 more v.2 v.1 (room_a at) (room_b at) t.turn-t.ensures.holds

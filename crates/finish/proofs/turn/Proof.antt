@@ -12,13 +12,11 @@ turn_spec =
     (tie.spec
     (λ c. search rules)
     (λ c. sym (length-take-le _ _ c.requires.1.0))
-    (λ c κs. let t = c.before.before in let s = t.before.before.before in even_asks s.args.format s.args.s s.args.i s.args.n s.args.a.now s.args.b.now t.if-i-eq0.true s.requires.1.1)
+    (λ c κs. even_asks c.args.format c.args.s c.args.i c.args.n c.args.a.now c.args.b.now c.if-i-eq0.true c.requires.1.1)
     (λ c. search rules) (λ c. search rules)
-    (λ c. let t = c.before.before.before.before.before in let s = t.before.before.before in
-    even_gives s.args.format s.args.s s.args.i s.args.n s.args.a.now s.args.b.now _ _ _ t.if-i-eq0.true c.end_turn.ensures)
+    (λ c. even_gives c.args.format c.args.s c.args.i c.args.n c.args.a.now c.args.b.now _ _ _ c.if-i-eq0.true c.end_turn.ensures)
     (λ c. search rules)
     (λ c. sym (length-take-le _ _ c.requires.0))
-    (λ c κs. let t = c.before.before in let s = t.before.before.before in odd_asks s.args.format s.args.s s.args.i s.args.n s.args.a.now s.args.b.now t.if-i-eq0.false s.requires.1.1)
+    (λ c κs. odd_asks c.args.format c.args.s c.args.i c.args.n c.args.a.now c.args.b.now c.if-i-eq0.false c.requires.1.1)
     (λ c. search rules) (λ c. search rules)
-    (λ c. let t = c.before.before.before.before.before in let s = t.before.before.before in
-    odd_gives s.args.format s.args.s s.args.i s.args.n s.args.a.now s.args.b.now _ _ _ t.if-i-eq0.false c.end_turn-2.ensures))
+    (λ c. odd_gives c.args.format c.args.s c.args.i c.args.n c.args.a.now c.args.b.now _ _ _ c.if-i-eq0.false c.end_turn-2.ensures))

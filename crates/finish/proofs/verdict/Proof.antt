@@ -26,7 +26,7 @@ module _ (w : Walk) where
 
 pub verdict_spec : {M : Type 1} → statement M
 verdict_spec = tie.close (tie.spec
-    (λ c. not_legal _ (c.if-not-walk.true))
+    (λ c. not_legal _ (not-true _ c.if-not-walk.true))
     (λ c. search rules)
-    (λ c. too_short _ (c.if-not-walk.false) c.if-walk-ne0.true)
-    (λ c. placed _ (c.if-not-walk.false) c.if-walk-ne0.false))
+    (λ c. too_short _ (not-false _ c.if-not-walk.false) c.if-walk-ne0.true)
+    (λ c. placed _ (not-false _ c.if-not-walk.false) c.if-walk-ne0.false))

@@ -38,21 +38,21 @@ sized : (c : tie.After-page_size-needed) → c.page_size-needed.result ≡ lengt
 sized c = c.page_size-needed.ensures ∙ ap length (page-is c.before)
 
 -- where room was asked: the verdict is what `require_room` answered
-asked : (c : tie.After-require_room-room) → let s = start c.before.before.before in room_verdict (length (pageBytes s)) (length s.args.out.now) ≡ c.require_room-room.result
-asked c = let s = start c.before.before.before in ap (λ (n : ℕ). room_verdict n (length s.args.out.now)) (sym (sized c.before.before)) ∙ sym c.require_room-room.ensures
+asked : (c : tie.After-require_room-room) → let s = start c.before.before in room_verdict (length (pageBytes s)) (length s.args.out.now) ≡ c.require_room-room.result
+asked c = let s = start c.before.before in ap (λ (n : ℕ). room_verdict n (length s.args.out.now)) (sym (sized c.before)) ∙ sym c.require_room-room.ensures
 
 returns : tie.Need-returns-in-Refused
 unfolding page_call
 returns c =
     let q = c.before in
-    let s = start q.before.before.before in
+    let s = start q.before.before in
     concluded (room_verdict (length (pageBytes s)) (length s.args.out.now)) (pageBytes s) s.args.out.now _ _ (Refused _) (asked q ∙ c.in-Refused.is) refl
 
 write-page-requires : tie.Need-write_page-requires
 write-page-requires c κs =
     let t = c.before in
     let q = t.before in
-    let d = q.before.before.before in
+    let d = q.before.before in
     (readable d, rw (page-is d) (room_enough _ _ (asked q ∙ c.in_default.is)))
 
 returns-2 : tie.Need-returns
@@ -61,9 +61,9 @@ returns-2 c =
     let w = c.before.before in
     let t = w.before.before in
     let q = t.before in
-    let d = q.before.before.before in
+    let d = q.before.before in
     let s = start d in
-    wrote (room_verdict (length (pageBytes s)) (length s.args.out.now)) (pageBytes s) s.args.out.now _ _ (sized q.before.before)
+    wrote (room_verdict (length (pageBytes s)) (length s.args.out.now)) (pageBytes s) s.args.out.now _ _ (sized q.before)
     (c.write_page.ensures ∙ ap (λ (l : List ℕ). written l s.args.out.now) (page-is d)) (asked q ∙ c.in_default.is)
 
 pub page_spec : {M : Type 1} → statement M

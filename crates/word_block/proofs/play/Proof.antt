@@ -59,10 +59,10 @@ module _ (c : tie.After-slice_known-4-1 invariant-loop decreases-loop) where
   numbered = copied.before.before
 
   abbrev formed : tie.After-format_of-own invariant-loop decreases-loop
-  formed = numbered.before.before
+  formed = numbered.before
 
   abbrev known : tie.After-slice_known-3-1 invariant-loop decreases-loop
-  known = formed.before.before
+  known = formed.before
 
 loop-holds : tie.Need-loop-i-init invariant-loop decreases-loop
 loop-holds c =
@@ -129,9 +129,9 @@ pub play_spec : {M : Type 1} → statement M
 play_spec = tie.close (tie.spec
     invariant-loop
     decreases-loop
+    (λ c κs. long c)
     (λ c κs. long c.before)
-    (λ c κs. long c.before.before.before)
-    (λ c κs. let k = c.before.before.before.before.before in let a = (s k).args in copy_fits a.words.now a.sound.now a.a.now a.b.now _ (takes k) c.count_of-count.ensures)
+    (λ c κs. let k = c.before.before.before in let a = (s k).args in copy_fits a.words.now a.sound.now a.a.now a.b.now _ (takes k) c.count_of-count.ensures)
     loop-holds
     (λ c κs. let l = c.before.before in (omega (arith, c.loop-i.invariant.plays.few, c.loop-i-test.true), c.loop-i.invariant.long))
     (λ c κs. let l = c.before.before.before.before in (omega (arith, c.loop-i.invariant.plays.few, c.loop-i-test.true), c.loop-i.invariant.long))

@@ -13,7 +13,7 @@ use Rattle.word_block.proofs.process.Tie as tie
 
 module _ (c : tie.After-asked-verdict) where
   abbrev s : tie.Start
-  s = c.before.before.before.before.before.before.before
+  s = c.before.before.before.before.before.before
 
   verdict : c.asked-verdict.result ≡ block_verdict (chain_of_words s.args.words.now) s.args.format (length s.args.sound.now) (shorter s.args.a.now s.args.b.now)
   verdict = c.asked-verdict.ensures ∙ ap (block_verdict (chain_of_words s.args.words.now) s.args.format (length s.args.sound.now)) c.shorter_of-shorter.ensures
