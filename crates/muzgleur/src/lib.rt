@@ -73,7 +73,7 @@ pub extern "C" fn muzgleur_block(
     a: &mut [u8],
     b: &mut [u8],
 ) -> Told
-    ensures* all { λ r. ⌜ record { result = r; chain = chain_of_words chain.new; a = a.new; b = b.new } ≡ block_outcome (block_call (chain_of_words chain.old) (record { rate = rate; channels = channels }) timestamp sound.now a.old b.old) ⌝ }
+    ensures all { record { result = result; chain = chain_of_words chain.new; a = a.new; b = b.new } ≡ block_outcome (block_call (chain_of_words chain.old) (record { rate = rate; channels = channels }) timestamp sound.now a.old b.old) }
     ensures words { (result.outcome ≡ 0 → chain.new ≡ chain.old) × SettingsStay chain.old chain.new }
 {
     let format = PcmFormat { rate, channels };
@@ -86,7 +86,7 @@ pub extern "C" fn muzgleur_block(
 // need not suffice; `muzgleur_finish_room` knows.
 #[unsafe(no_mangle)]
 pub extern "C" fn muzgleur_finish(chain: &mut [u32], a: &mut [u8], b: &mut [u8]) -> FinishTold
-    ensures* all { λ r. ⌜ record { result = r; chain = chain_of_words chain.new; a = a.new; b = b.new } ≡ finish_outcome (finish_call (chain_of_words chain.old) a.old b.old) ⌝ }
+    ensures all { record { result = result; chain = chain_of_words chain.new; a = a.new; b = b.new } ≡ finish_outcome (finish_call (chain_of_words chain.old) a.old b.old) }
     ensures words { chain.new ≡ finish_words result.outcome chain.old }
 {
     word_finish::finish(chain, a, b)

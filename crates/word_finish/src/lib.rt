@@ -54,7 +54,7 @@ fn play(words: &mut [u32], a: &mut [u8], b: &mut [u8]) -> FinishAnswer
 // The finish call. The output, where there is one, stands at the front of the half named, and the words stand for the chain cleared.
 // A refusal alters nothing.
 pub fn finish(words: &mut [u32], a: &mut [u8], b: &mut [u8]) -> FinishTold
-    ensures* { λ r. ⌜ (record { result = r; chain = chain_of_words words.new; a = a.new; b = b.new } ≡ finish_outcome (finish_call (chain_of_words words.old) a.old b.old)) × (words.new ≡ finish_words r.outcome words.old) ⌝ }
+    ensures { (record { result = result; chain = chain_of_words words.new; a = a.new; b = b.new } ≡ finish_outcome (finish_call (chain_of_words words.old) a.old b.old)) × (words.new ≡ finish_words result.outcome words.old) }
 {
     let shorter = answers::shorter_of(a.len(), b.len());
     let verdict = asked(words, shorter);

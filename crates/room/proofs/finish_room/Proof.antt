@@ -17,7 +17,7 @@ use Rattle.room.proofs.finish_room.Tie as tie
 
 module _ (c : tie.Else-not-head_legal) where
   abbrev s : tie.Start
-  s = c.before.before
+  s = c.before.before.before
 
   head : head_legal s.args.chain.format s.args.chain.count ≡ true
   head = sym c.head_legal.ensures ∙ c.if-not-head_legal.false

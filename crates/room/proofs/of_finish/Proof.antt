@@ -16,6 +16,6 @@ answer w t e = ap (λ (x : Bool). room_answer (ask x InvalidFormat Accepted) w) 
 
 pub of_finish_spec : {M : Type 1} → statement M
 of_finish_spec = tie.close (tie.spec
-    (λ c. sym (answer c.args.walk _ (c.if-not-walk.true)))
+    (λ c. sym (answer c.args.walk _ (not-true _ c.if-not-walk.true)))
     (λ c κs. search rules)
-    (λ c. c.known.ensures ∙ sym (answer c.args.walk _ (c.if-not-walk.false))))
+    (λ c. c.known.ensures ∙ sym (answer c.args.walk _ (not-false _ c.if-not-walk.false))))

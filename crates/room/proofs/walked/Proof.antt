@@ -24,5 +24,5 @@ eight s = search (unmapped, rules)
 pub walked_spec : {M : Type 1} → statement M
 walked_spec = tie.close (tie.spec
     (λ c κs. (head_parts c.args.chain.format c.args.chain.count c.requires).channels)
-    (λ c κs. asks_begin _ _ _ _ _ _ _ _ c.requires (eight c.before) c.begun-start.ensures)
+    (λ c κs. asks_begin _ _ _ _ _ _ _ _ c.requires (eight c.before.before) c.begun-start.ensures)
     (λ c. found_is _ _ _ _ _ c.begun-start.ensures c.walked.ensures.is))

@@ -25,7 +25,7 @@ module _ (p : tie.After-play-done) where
   o = p.before.before.before
 
   abbrev s : tie.Start
-  s = o.before.before.before.before.before
+  s = o.before.before.before.before
 
   abbrev w : List ℕ
   w = s.args.words.now
@@ -53,7 +53,7 @@ module _ (p : tie.After-play-done) where
 pub play_spec : {M : Type 1} → statement M
 play_spec = tie.close (tie.spec
     (λ c κs. search rules)
-    (λ c κs. let o = c.before.before in let s = o.before.before.before.before.before in
+    (λ c κs. let o = c.before.before in let s = o.before.before.before.before in
     subst (λ (x : Pipeline). Finishes x s.args.a.now s.args.b.now) (sym c.chain_of-own.ensures.0) s.requires)
     (λ c κs. let p = c.before.before.before.before.before.before in
     (subst (λ (x : Pipeline). x.count ≤ 8) (sym (cleared p)) (reset_few (w p) (stood p)), stands_long (w p) (stood p)))
