@@ -1,6 +1,12 @@
 // Files, for the programs.
 #![tactic(auto)]
+ghost use Rattle.std.specs.Io.{ReadsAtMost};
 ghost use Rattle.io.specs.Counts.{IsPrefixLen};
+
+use std::fs::File;
+use std::io::Read;
+use std::rt::Files;
+use std::{io, str};
 
 // How many bytes of a file stand at the front of a buffer. Where it could not be read it is not ok, and standard error says why.
 #[derive(Clone, Copy)]
@@ -10,48 +16,47 @@ pub struct FileRead {
 }
 
 // Reads until buf is full or the file ends.
-fn fill(fd: i32, buf: &mut [u8]) -> FileRead
-    ensures { IsPrefixLen result.count buf.new }
+fn fill<F: Read>(file: &mut F, buf: &mut [u8]) -> io::Result<usize>
+    ensures { ReadsAtMost result buf.new }
 {
     let mut count: usize = 0;
     while count < buf.len() {
-        let got = libc::read(fd, &mut buf[count..]);
-        if got < 0 {
-            return FileRead {
-                ok: false,
-                count: 0,
-            };
-        }
-        let n = io::count(got, &buf[count..]);
+        let n = file.read(&mut buf[count..])?;
         if n == 0 {
-            return FileRead { ok: true, count };
+            return Ok(count);
         }
         count += n;
     }
-    FileRead { ok: true, count }
+    Ok(count)
+}
+
+// Opens the file that path names, and reads it.
+fn open_and_fill<R: Files>(rt: &R, path: &str, buf: &mut [u8]) -> io::Result<usize>
+    ensures { ReadsAtMost result buf.new }
+{
+    let mut file = File::open(rt, path)?;
+    fill(&mut file, buf)
 }
 
 // The first bytes of a file, as many as buf holds.
-pub fn read_file(path: &[u8], buf: &mut [u8]) -> FileRead
+pub fn read_file<R: Files + Eprint>(rt: &R, path: &[u8], buf: &mut [u8]) -> FileRead
     ensures { IsPrefixLen result.count buf.new }
 {
-    let fd = os::open_read(path);
-    if fd < 0 {
-        os::fail(path);
+    let Ok(path) = str::from_utf8(path) else {
+        let _ = eprintln!(rt; "the path is not UTF-8");
         return FileRead {
             ok: false,
             count: 0,
         };
+    };
+    match open_and_fill(rt, path, buf) {
+        Ok(count) => FileRead { ok: true, count },
+        Err(e) => {
+            let _ = eprintln!(rt; "{path}: {e}");
+            FileRead {
+                ok: false,
+                count: 0,
+            }
+        }
     }
-    let read = fill(fd, buf);
-    if !read.ok {
-        os::fail(path);
-        libc::close(fd);
-        return FileRead {
-            ok: false,
-            count: 0,
-        };
-    }
-    libc::close(fd);
-    read
 }
