@@ -4,8 +4,10 @@ ghost use Rattle.std.specs.Prelude.{◌≡◌, ◌*◌, ◌≤◌, length, take}
 ghost use Rattle.io.specs.Counts.{IsPrefixLen};
 ghost use Rattle.note_lines.specs.Page.{page_of};
 
-use libc::{STDERR_FILENO, STDOUT_FILENO};
 use pipeline::WriteAnswer;
+use std::env::FillError;
+use std::io;
+use std::rt::{Env, Files};
 
 // The page at the front of out, in room that is always enough, and how many bytes it has.
 fn fill_page(rate: &[u8], channels: &[u8], recipe: &[u8], out: &mut [u8]) -> usize
@@ -21,51 +23,74 @@ fn fill_page(rate: &[u8], channels: &[u8], recipe: &[u8], out: &mut [u8]) -> usi
 }
 
 // Prints the page of the file that path names.
-fn run(rate: &[u8], channels: &[u8], path: &[u8], bytes: &mut [u8], out: &mut [u8])
+fn run<R: Files + Print + Eprint>(
+    rt: &R,
+    rate: &[u8],
+    channels: &[u8],
+    path: &[u8],
+    bytes: &mut [u8],
+    out: &mut [u8],
+) -> io::Result<()>
     requires { (2 * length bytes.old ≤ length out.old) × (3 ≤ length out.old) }
 {
-    let file = files::read_file(path, bytes);
+    let file = files::read_file(rt, path, bytes);
     if !file.ok {
-        return;
+        return Ok(());
     }
     let count = file.count;
     let n = fill_page(rate, channels, &bytes[..count], out);
-    io::write_all(STDOUT_FILENO, &out[..n]);
+    rt.write_all(&out[..n])
 }
 
 // A byte more than a recipe may have, so that a longer file is told, and twice as many for the page. They are lent as arrays first: lent
 // as slices where they are made, the proof would have to count their elements.
-fn lend(
+fn lend<R: Files + Print + Eprint>(
+    rt: &R,
     rate: &[u8],
     channels: &[u8],
     path: &[u8],
     bytes: &mut [u8; 1048577],
     out: &mut [u8; 2097154],
-) {
-    run(rate, channels, path, bytes, out);
+) -> io::Result<()> {
+    run(rt, rate, channels, path, bytes, out)
 }
 
-fn with_room(rate: &[u8], channels: &[u8], path: &[u8]) {
+fn with_room<R: Files + Print + Eprint>(
+    rt: &R,
+    rate: &[u8],
+    channels: &[u8],
+    path: &[u8],
+) -> io::Result<()> {
     let mut bytes = [0u8; 1048577];
     let mut out = [0u8; 2097154];
-    lend(rate, channels, path, &mut bytes, &mut out);
+    lend(rt, rate, channels, path, &mut bytes, &mut out)
+}
+
+// Whether there is an argument of this number; the program's name is number 0.
+fn is_given<R: Env>(rt: &R, number: usize) -> bool {
+    let mut first = [0u8; 1];
+    !matches!(rt.arg(number, &mut first), Err(FillError::NotPresent))
+}
+
+// An argument at the front of a buffer, and how many bytes it has. One that is longer than the buffer counts as empty.
+fn argument<R: Env>(rt: &R, number: usize, buf: &mut [u8]) -> usize
+    ensures { IsPrefixLen result buf.new }
+{
+    rt.arg(number, buf).unwrap_or(0)
 }
 
 // An argument that is longer than its buffer counts as empty, and so as no number.
-fn main() {
-    if os::arg_count() != 4 {
-        io::write_all(STDERR_FILENO, b"notes RATE CHANNELS RECIPE\n");
-        return;
+fn main(rt: HostRuntime) -> io::Result<()> {
+    if !is_given(&rt, 3) || is_given(&rt, 4) {
+        return eprintln!(rt; "notes RATE CHANNELS RECIPE");
     }
-    let mut rate = io::buffer();
-    let r = os::arg(1, &mut rate);
-    let mut channels = io::buffer();
-    let c = os::arg(2, &mut channels);
-    let mut path = io::buffer();
-    let p = os::arg(3, &mut path);
-    if os::errno() != 0 {
-        os::fail(b"RECIPE");
-        return;
-    }
-    with_room(&rate[..r], &channels[..c], &path[..p]);
+    let mut rate = [0u8; 4096];
+    let r = argument(&rt, 1, &mut rate);
+    let mut channels = [0u8; 4096];
+    let c = argument(&rt, 2, &mut channels);
+    let mut path = [0u8; 4096];
+    let Ok(p) = rt.arg(3, &mut path) else {
+        return eprintln!(rt; "RECIPE: File name too long");
+    };
+    with_room(&rt, &rate[..r], &channels[..c], &path[..p])
 }
