@@ -1,4 +1,4 @@
-// The static library for programs in C and Rust: the proved calls on a chain that the caller keeps as plain words. None requires anything of its caller.
+// The proved calls on a chain that the caller keeps as plain words. None requires anything of its caller. `muzgleur_c` exports them to C and Rust.
 #![tactic(auto)]
 ghost use Rattle.std.specs.Prelude.{◌≡◌};
 ghost use Rattle.pipeline.specs.Opening.{open_call};
@@ -41,8 +41,7 @@ pub struct ScratchResult {
 }
 
 // The chain of a recipe at the front of the words. A refusal, too few words among them, alters none.
-#[unsafe(no_mangle)]
-pub extern "C" fn muzgleur_open(rate: u32, channels: u16, recipe: &[u8], chain: &mut [u32]) -> u16
+pub fn muzgleur_open(rate: u32, channels: u16, recipe: &[u8], chain: &mut [u32]) -> u16
     ensures all { record { number = result; words = chain.new } ≡ open_outcome chain.old (open_call (record { rate = rate; channels = channels }) recipe.now) }
     ensures chain { result ≡ 0 → chain_of_words chain.new ≡ (open_call (record { rate = rate; channels = channels }) recipe.now).chain }
 {
@@ -63,8 +62,7 @@ pub extern "C" fn muzgleur_open(rate: u32, channels: u16, recipe: &[u8], chain: 
 
 // The output, where there is one, stands at the front of the half named, and the words stand for the chain afterwards; only counters
 // and memories are altered. A refusal alters nothing. Words that stand for no chain, too few among them, are 1.
-#[unsafe(no_mangle)]
-pub extern "C" fn muzgleur_block(
+pub fn muzgleur_block(
     chain: &mut [u32],
     rate: u32,
     channels: u16,
@@ -84,8 +82,7 @@ pub extern "C" fn muzgleur_block(
 // there is one, stands at the front of the half named, and the words stand for the chain with its sound memory cleared and its counters
 // as they were. A refusal alters nothing. A stage can deliver more here than of any block before: halves by `muzgleur_scratch_bytes`
 // need not suffice; `muzgleur_finish_room` knows.
-#[unsafe(no_mangle)]
-pub extern "C" fn muzgleur_finish(chain: &mut [u32], a: &mut [u8], b: &mut [u8]) -> FinishTold
+pub fn muzgleur_finish(chain: &mut [u32], a: &mut [u8], b: &mut [u8]) -> FinishTold
     ensures all { record { result = result; chain = chain_of_words chain.new; a = a.new; b = b.new } ≡ finish_outcome (finish_call (chain_of_words chain.old) a.old b.old) }
     ensures words { chain.new ≡ finish_words result.outcome chain.old }
 {
@@ -93,8 +90,7 @@ pub extern "C" fn muzgleur_finish(chain: &mut [u32], a: &mut [u8], b: &mut [u8])
 }
 
 // The sound memory cleared, the counters left alone. Words that stand for no chain are 1, and stay.
-#[unsafe(no_mangle)]
-pub extern "C" fn muzgleur_reset(chain: &mut [u32]) -> u16
+pub fn muzgleur_reset(chain: &mut [u32]) -> u16
     ensures all { record { number = result; words = chain.new } ≡ reset_outcome chain.old }
     ensures chain { chain_of_words chain.new ≡ reset_call (chain_of_words chain.old) }
 {
@@ -102,8 +98,7 @@ pub extern "C" fn muzgleur_reset(chain: &mut [u32]) -> u16
 }
 
 // How many blocks were accepted, and how many of them brought nothing.
-#[unsafe(no_mangle)]
-pub extern "C" fn muzgleur_counters(chain: &[u32]) -> CounterResult
+pub fn muzgleur_counters(chain: &[u32]) -> CounterResult
     ensures { result ≡ counter_result (stands chain.now) (chain_of_words chain.now) }
 {
     let own = chain_words::chain_of(chain);
@@ -116,8 +111,7 @@ pub extern "C" fn muzgleur_counters(chain: &[u32]) -> CounterResult
 }
 
 // The format that leaves the last stage; zeros where the words stand for no chain.
-#[unsafe(no_mangle)]
-pub extern "C" fn muzgleur_output_format(chain: &[u32]) -> Format
+pub fn muzgleur_output_format(chain: &[u32]) -> Format
     ensures { result ≡ format_result (output_format (chain_of_words chain.now)) }
 {
     let format = chain_words::chain_of(chain).output_format();
@@ -128,8 +122,7 @@ pub extern "C" fn muzgleur_output_format(chain: &[u32]) -> Format
 }
 
 // Twice the bytes of a half: two equal halves of half the figure each are enough for any block of `size` bytes, in any state.
-#[unsafe(no_mangle)]
-pub extern "C" fn muzgleur_scratch_bytes(chain: &[u32], size: usize) -> ScratchResult
+pub fn muzgleur_scratch_bytes(chain: &[u32], size: usize) -> ScratchResult
     ensures { result ≡ scratch_result (scratch_bytes (chain_of_words chain.now) size) }
 {
     let answer = word_block::scratch_bytes(chain, size);
@@ -141,24 +134,21 @@ pub extern "C" fn muzgleur_scratch_bytes(chain: &[u32], size: usize) -> ScratchR
 
 // What a block of so many frames in the chain's format will bring, whatever its bytes: the frames that leave the last stage, 0 where that
 // would be 'nothing yet', and the bytes of each of the smallest two equal halves that are accepted.
-#[unsafe(no_mangle)]
-pub extern "C" fn muzgleur_block_room(chain: &[u32], frames: usize) -> RoomTold
+pub fn muzgleur_block_room(chain: &[u32], frames: usize) -> RoomTold
     ensures { result ≡ room_told (block_room (chain_of_words chain.now) frames) }
 {
     word_room::block_room(chain, frames).told()
 }
 
 // The same of a finish; where nothing is due both are 0.
-#[unsafe(no_mangle)]
-pub extern "C" fn muzgleur_finish_room(chain: &[u32]) -> RoomTold
+pub fn muzgleur_finish_room(chain: &[u32]) -> RoomTold
     ensures { result ≡ room_told (finish_room (chain_of_words chain.now)) }
 {
     word_room::finish_room(chain).told()
 }
 
 // The recipe's bytes, without its notes, at the front of out; bytes past them stay.
-#[unsafe(no_mangle)]
-pub extern "C" fn muzgleur_write_recipe(chain: &[u32], out: &mut [u8]) -> WriteTold
+pub fn muzgleur_write_recipe(chain: &[u32], out: &mut [u8]) -> WriteTold
     ensures { (result ≡ write_told (write_call (chain_of_words chain.now) out.old).answer) × (out.new ≡ (write_call (chain_of_words chain.now) out.old).out) }
 {
     let own = chain_words::chain_of(chain);
