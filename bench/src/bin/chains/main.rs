@@ -51,7 +51,7 @@ fn played(side: Side, chain: Chain, frames: u32, times: u32) -> (String, f64) {
         Side::Source => twin("source", chain, frames, times),
         Side::Exported => twin("exported", chain, frames, times),
         Side::Program => {
-            let program = concat!(env!("CARGO_MANIFEST_DIR"), "/../target/bin/speed");
+            let program = concat!(env!("CARGO_MANIFEST_DIR"), "/../crates/speed/out/speed");
             timed(Command::new(program), &chain.script(frames, times))
         }
     }
