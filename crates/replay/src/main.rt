@@ -61,7 +61,7 @@ fn next(chain: Pipeline, sound: &mut [u8], a: &mut [u8], b: &mut [u8]) -> Step {
     step
 }
 
-// The script's commands in turn. A proved loop has to end, so it counts down from a number that no script uses up.
+// The script's commands in turn. A proved loop has to end, so it counts up to a number that no script reaches.
 fn replay(sound: &mut [u8], a: &mut [u8], b: &mut [u8]) {
     let opened = Pipeline::open(
         PcmFormat {
@@ -71,14 +71,12 @@ fn replay(sound: &mut [u8], a: &mut [u8], b: &mut [u8]) {
         b"",
     );
     let mut chain = opened.chain;
-    let mut turns = u64::MAX;
-    while turns > 0 {
+    for _ in 0..u64::MAX {
         let step = next(chain, sound, a, b);
         if !step.ok {
             return;
         }
         chain = step.chain;
-        turns -= 1;
     }
 }
 
