@@ -1,6 +1,7 @@
 // Document 01, 'By program', and document 02's finish: what the calls answer. One line for each: what was asked, then 0 or the refusal's
 // number, then bytes; and the last sample of what a finish delivers. Then rates divided by their greatest common divisor.
 #![tactic(auto)]
+
 use answers::{Answer, FinishAnswer};
 use pcm::PcmFormat;
 use pipeline::Pipeline;

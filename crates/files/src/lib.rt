@@ -1,5 +1,6 @@
 // Files, for the programs.
 #![tactic(auto)]
+
 ghost use Rattle.std.specs.Io.{ReadsAtMost};
 ghost use Rattle.io.specs.Counts.{IsPrefixLen};
 

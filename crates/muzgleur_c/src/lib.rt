@@ -1,5 +1,6 @@
 // The static library for programs in C and Rust: the calls of `muzgleur`, exported under their names. None requires anything of its caller.
 #![tactic(auto)]
+
 ghost use Rattle.std.specs.Prelude.{◌≡◌};
 ghost use Rattle.pipeline.specs.Opening.{open_call};
 ghost use Rattle.pipeline.specs.Reset.{output_format, reset_call};

@@ -1,5 +1,6 @@
 // The desk program: notes RATE CHANNELS RECIPE prints a line for each note of a recipe, or the number of its refusal (document 02, Q-4).
 #![tactic(auto)]
+
 ghost use Rattle.std.specs.Prelude.{◌≡◌, ◌*◌, ◌≤◌, length, take};
 ghost use Rattle.io.specs.Counts.{IsPrefixLen};
 ghost use Rattle.note_lines.specs.Page.{page_of};

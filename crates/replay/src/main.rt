@@ -1,5 +1,6 @@
 // The public calls, driven by a script: reads calls from standard input and writes what each answered.
 #![tactic(auto)]
+
 use pcm::PcmFormat;
 use pipeline::Pipeline;
 

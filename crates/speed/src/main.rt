@@ -1,12 +1,12 @@
 // A sound held in memory through a chain, block by block and many times over: what bench/chains times. Standard input holds the rate,
 // the channels, the frames of a block and the number of passes, 32 bits each, low byte first, then the recipe.
 #![tactic(auto)]
+
 ghost use Rattle.std.specs.Prelude.{◌+◌, ◌<◌, ◌≤◌, length};
 
 use answers::Answer;
 use pcm::PcmFormat;
 use pipeline::Pipeline;
-use std::num::wrapping_add_u64;
 
 // Frames that came out, a checksum of 32 bits, and samples that were held back.
 #[derive(Clone, Copy)]
@@ -30,10 +30,8 @@ fn summed(checksum: u64, n: u64) -> u64 {
 // Every byte in a checksum.
 fn all_summed(checksum: u64, sound: &[u8]) -> u64 {
     let mut sum = checksum;
-    let mut i: usize = 0;
-    while i < sound.len() {
-        sum = summed(sum, wide(sound[i]));
-        i += 1;
+    for x in sound {
+        sum = summed(sum, wide(*x));
     }
     sum
 }
@@ -59,11 +57,9 @@ fn even_byte(x: u32) -> u8 {
 // Noise of even samples, the same each time. The source's stereo to mono, which rounds down, makes the same of it.
 fn fill(sound: &mut [u8]) {
     let mut x: u32 = 1;
-    let mut i: usize = 0;
-    while i < sound.len() {
+    for byte in sound {
         x = next(x);
-        sound[i] = even_byte(x);
-        i += 1;
+        *byte = even_byte(x);
     }
 }
 
@@ -86,9 +82,9 @@ fn tallied<'a>(tally: Tally, first: bool, answer: Answer, a: &'a [u8], b: &'a [u
             clipped,
         } => {
             let out = answers::output(a, b, half, len);
-            let frames = wrapping_add_u64(tally.frames, frames_in(format, len));
+            let frames = tally.frames.wrapping_add(frames_in(format, len));
             let checksum = end_summed(tally.checksum, out);
-            let clipped = wrapping_add_u64(tally.clipped, clipped as u64);
+            let clipped = tally.clipped.wrapping_add(clipped as u64);
             if first {
                 return Tally {
                     frames,
@@ -105,7 +101,7 @@ fn tallied<'a>(tally: Tally, first: bool, answer: Answer, a: &'a [u8], b: &'a [u
         Answer::NothingYet { clipped } => Tally {
             frames: tally.frames,
             checksum: summed(tally.checksum, 0),
-            clipped: wrapping_add_u64(tally.clipped, clipped as u64),
+            clipped: tally.clipped.wrapping_add(clipped as u64),
         },
         Answer::Refused(e) => Tally {
             frames: tally.frames,
@@ -154,10 +150,8 @@ fn passes(run: Run, times: u32, size: usize, sound: &[u8], a: &mut [u8], b: &mut
     requires { 0 < size }
 {
     let mut last = pass(run, true, size, sound, a, b);
-    let mut i: u32 = 1;
-    while i < times {
+    for _ in 1..times {
         last = pass(last, false, size, sound, a, b);
-        i += 1;
     }
     last
 }
