@@ -1,7 +1,9 @@
 // Files, for the programs.
 #![tactic(auto)]
 
+ghost use Rattle.std.specs.Prelude.{IfOk, ◌<◌, length, take};
 ghost use Rattle.std.specs.Io.{ReadsAtMost};
+ghost use Rattle.std.specs.Io.KnownBytes.{Consumes, IsAtEnd};
 ghost use Rattle.io.specs.Counts.{IsPrefixLen};
 
 use std::fs::File;
@@ -18,7 +20,9 @@ pub struct FileRead {
 
 // Reads until buf is full or the file ends.
 fn fill<F: Read>(file: &mut F, buf: &mut [u8]) -> io::Result<usize>
-    ensures { ReadsAtMost result buf.new }
+    ensures bound { ReadsAtMost result buf.new }
+    ensures bytes { IfOk result (λ n. Consumes (F.remaining file.old) (F.remaining file.new) (take n buf.new)) }
+    ensures end { IfOk result (λ n. n < length buf.new → IsAtEnd (F.remaining file.new)) }
 {
     let mut count: usize = 0;
     while count < buf.len() {
