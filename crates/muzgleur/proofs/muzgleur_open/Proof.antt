@@ -28,7 +28,7 @@ returns-2 c =
     let a = n.before.before.before in
     let w = c.args.chain.now in
     let f : PcmFormat = record { rate = c.args.rate; channels = c.args.channels } in
-    let q = o.«open».ensures in (
+    let q = o.open-opened.ensures in (
       rw (le-leb 152 (length w) c.if-chain-lt-CHAIN_WORDS.false, ← q, c.in-Accepted.is, c.put_chain.ensures.0),
       λ z. ap chain_of_words (c.put_chain.ensures.0 ∙ ap (λ (x : Opened). written (words_of x.chain) w) q)
           ∙ open_stands f c.ranges.channels.fits c.args.recipe.now w (subst (λ (x : Opened). x.verdict ≡ Accepted) q c.in-Accepted.is) (subst (λ (x : Opened). All HeldStage x.chain.stages) q c.put_chain.ensures.1),
@@ -39,7 +39,7 @@ returns-3 c =
     let v = c.before in
     let o = v.before.before in
     let n = o.before in (
-      rw (le-leb 152 (length c.args.chain.now) c.if-chain-lt-CHAIN_WORDS.false, ← o.«open».ensures, c.in-Refused.is, c.number.ensures),
+      rw (le-leb 152 (length c.args.chain.now) c.if-chain-lt-CHAIN_WORDS.false, ← o.open-opened.ensures, c.in-Refused.is, c.number.ensures),
       λ z. let n = (number_within c.in-Refused.e).0 in absurd (omega (arith, n, sym c.number.ensures ∙ z)),
     )
 
