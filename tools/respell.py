@@ -16,9 +16,10 @@ PARTS = {"getD": "get_or"}
 # A definition whose name would be a crate's.
 OTHER = {"stageWords": "words_of_stage"}
 TOKEN = re.compile(r"[^\s(){}\[\].,;λ«»⌜⌝\"`]+")
-DECL = re.compile(r"^ {0,2}(?:abbrev |unfoldable )?(?:pub )?([^\s(:{]+) :(?= |$)")
-FIELD = re.compile(r"^  pub ([^\s:]+) :")
-LEMMA_OF_TOOL = re.compile(r"(tie\.|statement |goal\.)")
+DECL = re.compile(r"^ *(?:abbrev |unfoldable )?(?:pub )?([^\s(:{.=]+) :(?= |$)")
+FIELD = re.compile(r"^ +pub ([^\s:]+) :")
+# The answers to what a proof is asked keep the name of the question.
+LEMMA_OF_TOOL = re.compile(r": (tie\.(Need-|invariant|decreases)|\{M : Type 1\} → statement |goal\.)")
 
 
 def files(root):

@@ -1,5 +1,6 @@
 // What a block or finish call answers: its numbers and values, the counters, the halves in turn, and the output as a part of one (pipeline.rs).
 #![tactic(auto)]
+
 ghost use Rattle.std.specs.Prelude.{◌≡◌, ◌≤◌, ◌<◌, length};
 ghost use Rattle.answers.specs.Answers.{counted_up, last_half, output_answer, shorter_of, front_of, output_of, half_number, silent_told, answer_told, scratch_told, counted_if, unstaged, next_stage};
 ghost use Rattle.answers.specs.FinishAnswers.{finish_answer, silent_finish_told, finish_told};

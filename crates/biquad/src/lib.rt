@@ -1,5 +1,6 @@
 // Second-order filters in direct form I (biquad.rs).
 #![tactic(auto)]
+
 ghost use Rattle.std.specs.Prelude.{◌≡◌};
 ghost use Rattle.filters.specs.Filters.{FilterBlock, FilteredBlock};
 ghost use Rattle.cookbook.specs.Cookbook.{identity};

@@ -1,5 +1,6 @@
 // The block call of a chain (pipeline.rs): room asked first, then the stages in turn over two lent halves.
 #![tactic(auto)]
+
 ghost use Rattle.std.specs.Prelude.{◌≡◌};
 ghost use Rattle.pcm.specs.Refusals.{valued};
 ghost use Rattle.pcm.specs.declared.Verdict.TheVariants.{Accepted};

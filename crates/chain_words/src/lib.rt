@@ -1,5 +1,6 @@
 // A chain as plain words in the caller's memory: eight words for the chain, then eighteen for each of its eight stages.
 #![tactic(auto)]
+
 ghost use Rattle.std.specs.Prelude.{◌≡◌, [], ◌∷◌, ◌+◌, ◌*◌, ◌/◌, ◌%◌, ◌≤◌, ◌<◌, ◌^◌, length, take};
 ghost use Rattle.std.proofs.lemmas.List.Edits.{sets};
 ghost use Rattle.pcm.specs.Samples.{All};

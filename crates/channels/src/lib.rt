@@ -1,5 +1,6 @@
 // Channel operations: mono to stereo, stereo to mono, and a saturating mix (elements/channels.rs).
 #![tactic(auto)]
+
 ghost use Rattle.std.specs.Prelude.{◌≡◌, ◌+◌, ◌*◌, ◌/◌, ◌%◌, ◌≤◌, ◌<◌, ◌+ℤ◌, length};
 ghost use Rattle.pcm.specs.Frames.{written};
 ghost use Rattle.pcm.specs.Samples.{sample_at, encode, decode, outside16};

@@ -1,5 +1,6 @@
 // A biquad's coefficients, by the Audio EQ Cookbook (biquad.rs).
 #![tactic(auto)]
+
 ghost use Rattle.std.specs.Prelude.{◌≡◌, ◌&&◌, if◌then◌else◌};
 ghost use Rattle.std.specs.Float.Ieee.{lt, le};
 ghost use Rattle.pcm.specs.declared.Error.TheVariants.{InvalidFormat};

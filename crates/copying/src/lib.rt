@@ -1,5 +1,6 @@
 // Bytes to the front of a buffer, as a copy that compiles to the C library's.
 #![tactic(auto)]
+
 ghost use Rattle.std.specs.Prelude.{◌≡◌, ◌≤◌, min, length};
 ghost use Rattle.pcm.specs.Frames.{written};
 

@@ -1,5 +1,6 @@
 // How many samples have a property, such as to be held back (document 02, Q-2).
 #![tactic(auto)]
+
 ghost use Rattle.std.specs.Prelude.{◌≡◌, min};
 ghost use Rattle.counting.specs.Counting.{one};
 

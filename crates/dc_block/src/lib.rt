@@ -1,5 +1,6 @@
 // Removes the offset of a signal: a one-pole high-pass (dc_block.rs).
 #![tactic(auto)]
+
 ghost use Rattle.std.specs.Prelude.{◌≡◌, true, pos};
 ghost use Rattle.std.specs.Float.{binary32};
 ghost use Rattle.std.specs.Float.Ieee.{of_bits, of_int};

@@ -103,42 +103,42 @@ module _ (f : PcmFormat) (s : Stage) (src dst : List ℕ) (w : ServedToEnd f s s
     len_is : len ≡ length (stage_out s xs) * width
     len_is = v.serves.size ∙ length_bytes (format_after f s.kind).channels (stage_out s xs) (v.serves.frames a)
 
-    last-is : last ≡ rest
-    last-is = ap (λ (t : Stage). last_of f.channels s.kind t.memory) v.serves.keeps
+    last_is : last ≡ rest
+    last_is = ap (λ (t : Stage). last_of f.channels s.kind t.memory) v.serves.keeps
 
-    both-fit : len + length last * width ≤ length dst
-    both-fit = omega (arith, len_is, all_fits, ap (λ (k : ℕ). k * width) parts, ap (λ (l : List Frame). length l * width) last-is)
+    both_fit : len + length last * width ≤ length dst
+    both_fit = omega (arith, len_is, all_fits, ap (λ (k : ℕ). k * width) parts, ap (λ (l : List Frame). length l * width) last_is)
 
-    still-long : length mid ≡ length dst
-    still-long = ap length v.serves.gives ∙ length_written (bytes_of (stage_out s xs)) dst (omega (arith, v.serves.size, both-fit))
+    still_long : length mid ≡ length dst
+    still_long = ap length v.serves.gives ∙ length_written (bytes_of (stage_out s xs)) dst (omega (arith, v.serves.size, both_fit))
 
     pub within : len ≤ length mid
-    within = omega (arith, both-fit, still-long)
+    within = omega (arith, both_fit, still_long)
 
     pub last_fits : length last * (f.channels * 2) ≤ length (take (length mid - len) (drop len mid))
-    last_fits = rw (last_width f m s.kind, part_to_end mid len, length-drop len mid) (omega (arith, both-fit, still-long))
+    last_fits = rw (last_width f m s.kind, part_to_end mid len, length-drop len mid) (omega (arith, both_fit, still_long))
 
     module _ (n : ℕ) (out : List ℕ) (k : Fronted last (take (length mid - len) (drop len mid)) out n) (g : FramesOf f.channels last) where
-      rest-frames : FramesOf (format_after f s.kind).channels last
-      rest-frames = last_frames f m s.kind g
+      rest_frames : FramesOf (format_after f s.kind).channels last
+      rest_frames = last_frames f m s.kind g
 
-      pub size-most : len + n ≤ length dst
-      size-most = omega (arith, both-fit, k.size, length_bytes (format_after f s.kind).channels last rest-frames)
+      pub size_most : len + n ≤ length dst
+      size_most = omega (arith, both_fit, k.size, length_bytes (format_after f s.kind).channels last rest_frames)
 
-      ended-bytes : bytes_of (stage_out s xs) ++ bytes_of last ≡ bytes_of (stage_end f.channels s xs)
+      ended_bytes : bytes_of (stage_out s xs) ++ bytes_of last ≡ bytes_of (stage_end f.channels s xs)
       unfolding stage_end
-      ended-bytes = sym (bytes-append (stage_out s xs) last) ∙ ap (λ (l : List Frame). bytes_of (stage_out s xs ++ l)) last-is
+      ended_bytes = sym (bytes-append (stage_out s xs) last) ∙ ap (λ (l : List Frame). bytes_of (stage_out s xs ++ l)) last_is
 
-      pub serves-to-end : ServesToEnd f s xs (len + n) clipped dst (put_mid len (length mid - len) mid out)
+      pub serves_to_end : ServesToEnd f s xs (len + n) clipped dst (put_mid len (length mid - len) mid out)
       unfolding stage_end
-      serves-to-end = record {
+      serves_to_end = record {
         fronted = record {
-          size = ap₂ (λ (x y : ℕ). x + y) v.serves.size k.size ∙ sym (length-append (bytes_of (stage_out s xs)) (bytes_of last)) ∙ ap length ended-bytes;
+          size = ap₂ (λ (x y : ℕ). x + y) v.serves.size k.size ∙ sym (length-append (bytes_of (stage_out s xs)) (bytes_of last)) ∙ ap length ended_bytes;
           bytes_are =
               written_part (bytes_of (stage_out s xs)) (bytes_of last) dst mid out len v.serves.size v.serves.gives k.bytes_are
-              ∙ ap (λ (l : List ℕ). written l dst) ended-bytes;
+              ∙ ap (λ (l : List ℕ). written l dst) ended_bytes;
         };
         frames = λ b. all_append (FrameOf (format_after f s.kind).channels) (stage_out s xs) rest (v.serves.frames b)
-            (subst (FramesOf (format_after f s.kind).channels) last-is rest-frames);
+            (subst (FramesOf (format_after f s.kind).channels) last_is rest_frames);
         holds = v.holds;
       }

@@ -1,5 +1,6 @@
 // The turn of a stage that ends (document 02, Q-1): what it makes of the frames that arrive, then its last frame.
 #![tactic(auto)]
+
 ghost use Rattle.std.specs.Prelude.{[], ◌∷◌, ◌*◌, ◌≤◌, ◌<◌, length, take};
 ghost use Rattle.pcm.specs.Frames.{FramesOf, frames_of};
 ghost use Rattle.turns.specs.Turns.{Takes, Makes};

@@ -1,5 +1,6 @@
 // How many frames a stage delivers of those that arrive and at its end (document 02, Q-1).
 #![tactic(auto)]
+
 ghost use Rattle.std.specs.Prelude.{◌≡◌, ◌+◌, ◌*◌, ◌≤◌, ◌<◌, ◌^◌};
 ghost use Rattle.stage.specs.Rooms.{Bounded};
 ghost use Rattle.ending.specs.ResamplerEnd.{up_to, end_frame_count};

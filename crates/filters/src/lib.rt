@@ -1,5 +1,6 @@
 // What a filter keeps between samples (dc_block.rs, biquad.rs).
 #![tactic(auto)]
+
 ghost use Rattle.std.specs.Prelude.{◌≡◌};
 ghost use Rattle.filters.specs.Filters.{memory_at_rest};
 

@@ -26,7 +26,7 @@ use Rattle.block.specs.BlockCall.{put, suited, shorter}
 use Rattle.block.specs.laws.Steps.{stage_at_lem, stages_end, drop_zero}
 use Rattle.block.specs.laws.Reaching.{Sized, put_sized, target_long}
 use Rattle.block.specs.laws.Bounds.{suited_first, suited_rest, legal_parts}
-use Rattle.block.specs.laws.Clips.{Clips, clips_first, clips-fit, clips-next}
+use Rattle.block.specs.laws.Clips.{Clips, clips_first, clips_fit, clips_next}
 use Rattle.finish.specs.FinishCall.{chain_end, end_clipped, room_at_end, end_verdict, ended_halves}
 use Rattle.finish.specs.Turns.{source_for, EndTurn, Finishes}
 use Rattle.finish.specs.laws.Stepping.{end_first, end_rest}
@@ -149,7 +149,7 @@ module _ (stages : List Stage) (count : ℕ) (format : PcmFormat) (before : Halv
   -- the stage has had its turn
   -- the sum of what was held back fits
   pub sum_fits : {held : ℕ} → held ≡ stage_clipped s (frames_of f.channels (source_for i n h)) → clipped + held ≤ 38400000000000
-  sum_fits q = clips-fit count _ format.rate _ f _ i clipped r.clips more top s r.xs refl r.good r.channels.1 (q ∙ ap (stage_clipped s) r.source)
+  sum_fits q = clips_fit count _ format.rate _ f _ i clipped r.clips more top s r.xs refl r.good r.channels.1 (q ∙ ap (stage_clipped s) r.source)
 
   module _ (m held : ℕ) (g : PcmFormat) (h' : Halves) (t : EndTurn f s (frames_of f.channels (source_for i n h)) i m held h h') (e : g ≡ format_after f s.kind) where
     abbrev out : List Frame
@@ -161,52 +161,52 @@ module _ (stages : List Stage) (count : ℕ) (format : PcmFormat) (before : Halv
     halves_are : h' ≡ put i (bytes_of out) h
     halves_are = t.gives ∙ ap (λ (xs : List Frame). put i (bytes_of (stage_end f.channels s xs)) h) r.source
 
-    good-out : FramesOf g.channels out
-    good-out = subst (λ (k : PcmFormat). FramesOf k.channels out) (sym e)
+    good_out : FramesOf g.channels out
+    good_out = subst (λ (k : PcmFormat). FramesOf k.channels out) (sym e)
         (subst (λ (xs : List Frame). FramesOf f.channels xs → FramesOf (format_after f s.kind).channels (stage_end f.channels s xs)) r.source t.frames r.good)
 
-    count-out : length out ≡ frames_at_end s.kind s.memory (length r.xs)
-    count-out = stage_end_count f f.channels s r.xs suit_here
+    count_out : length out ≡ frames_at_end s.kind s.memory (length r.xs)
+    count_out = stage_end_count f f.channels s r.xs suit_here
 
-    long-out : length (bytes_of out) ≡ length out * (g.channels * 2)
-    long-out = length_bytes g.channels out good-out
+    long_out : length (bytes_of out) ≡ length out * (g.channels * 2)
+    long_out = length_bytes g.channels out good_out
 
-    few-channels : (0 < g.channels) × (g.channels ≤ 2)
-    few-channels = subst (λ (k : PcmFormat). (0 < k.channels) × (k.channels ≤ 2)) (sym e) (channels_after f s.kind r.channels)
+    few_channels : (0 < g.channels) × (g.channels ≤ 2)
+    few_channels = subst (λ (k : PcmFormat). (0 < k.channels) × (k.channels ≤ 2)) (sym e) (channels_after f s.kind r.channels)
 
-    within-out : m ≤ short
-    within-out =
+    within_out : m ≤ short
+    within_out =
         let a : length out * (g.channels * 2) ≤ short =
         subst (λ (k : PcmFormat). length out * (k.channels * 2) ≤ short) (sym e)
-        (subst (λ (k : ℕ). k * ((format_after f s.kind).channels * 2) ≤ short) (sym count-out) room_here) in
-        omega (arith, size_is, long-out)
+        (subst (λ (k : ℕ). k * ((format_after f s.kind).channels * 2) ≤ short) (sym count_out) room_here) in
+        omega (arith, size_is, long_out)
 
-    pub sized-out : Sized h h'
-    sized-out = subst (Sized h) (sym halves_are) (put_sized i (bytes_of out) h (omega (arith, size_is, within-out)) (omega (arith, size_is, within-out)))
+    pub sized_out : Sized h h'
+    sized_out = subst (Sized h) (sym halves_are) (put_sized i (bytes_of out) h (omega (arith, size_is, within_out)) (omega (arith, size_is, within_out)))
 
-    clips-out : Clips count (end_clipped format (take count stages) []) format.rate (end_clipped g rest out) g (length out) (i + 1) (clipped + held)
-    clips-out =
-        clips-next count _ format.rate _ f _ i clipped r.clips more top s r.xs refl r.good r.channels.1 (t.holds ∙ ap (stage_clipped s) r.source)
+    clips_out : Clips count (end_clipped format (take count stages) []) format.rate (end_clipped g rest out) g (length out) (i + 1) (clipped + held)
+    clips_out =
+        clips_next count _ format.rate _ f _ i clipped r.clips more top s r.xs refl r.good r.channels.1 (t.holds ∙ ap (stage_clipped s) r.source)
         (ap (λ (l : List Stage). end_clipped f l r.xs) ahead ∙ end_clipped_cons f s rest r.xs ∙ ap (λ (k : PcmFormat). stage_clipped s r.xs + end_clipped k rest out) (sym e))
-        suit_here (rw count-out (end_wanted_holds s.kind s.memory (length r.xs) (suits_bounded f s.kind s.memory suit_here))) e
+        suit_here (rw count_out (end_wanted_holds s.kind s.memory (length r.xs) (suits_bounded f s.kind s.memory suit_here))) e
 
-    pub next-reached : EndReached stages count format before short g m (i + 1) h' (clipped + held)
-    next-reached =
+    pub next_reached : EndReached stages count format before short g m (i + 1) h' (clipped + held)
+    next_reached =
         let src : source_for (i + 1) m h' ≡ bytes_of out = ap (source_for (i + 1) m) halves_are ∙ next_source i m (bytes_of out) h size_is in
         record {
           xs = out;
-          good = good-out;
-          channels = few-channels;
-          source = ap (frames_of g.channels) src ∙ frames_bytes g.channels out few-channels.0 good-out;
-          long = ap length src ∙ long-out;
+          good = good_out;
+          channels = few_channels;
+          source = ap (frames_of g.channels) src ∙ frames_bytes g.channels out few_channels.0 good_out;
+          long = ap length src ∙ long_out;
           size = size_is;
-          within = within-out;
+          within = within_out;
           suit = ap (λ (k : PcmFormat). suited k rest) e ∙ suited_rest f s rest suit_all;
-          room = ap₂ (λ (k : PcmFormat) (c : ℕ). end_verdict k rest c short) e count-out ∙ end_rest f s rest (length r.xs) short room_all;
+          room = ap₂ (λ (k : PcmFormat) (c : ℕ). end_verdict k rest c short) e count_out ∙ end_rest f s rest (length r.xs) short room_all;
           sides = r.sides ∙ ap (λ (l : List Stage). ended_halves i f l r.xs h) ahead ∙ ended_cons f s rest i r.xs h
               ∙ ap₂ (λ (k : PcmFormat) (x : Halves). ended_halves (i + 1) k rest out x) (sym e) (sym halves_are);
           makes = r.makes ∙ ap (λ (l : List Stage). chain_end f l r.xs) ahead ∙ chain_end_cons f s rest r.xs ∙ ap (λ (k : PcmFormat). chain_end k rest out) (sym e);
-          clips = clips-out;
+          clips = clips_out;
         }
 
 -- ---- past the last stage

@@ -1,5 +1,6 @@
 // The finish call of a chain (document 02, Q-1): each resampler's last frame, where an output falls on it, runs on through the later stages.
 #![tactic(auto)]
+
 ghost use Rattle.std.specs.Prelude.{◌≡◌, true, [], ◌≤◌, length};
 ghost use Rattle.pcm.specs.Frames.{frames_of};
 ghost use Rattle.pipeline.specs.WritingBack.{stages_of};

@@ -107,23 +107,23 @@ module _ (s : Bool) (K i m : ℕ) (e : ℤ) (f : T (fits binary32 (fin s m e))) 
         let g : L < half_up (m * up e) (down e) = half_up_past L (m * up e) (down e) (down_pos e) (past (next_float (suc i) K m e (significand s m e f) step l)) in
         record {
           small = rw last (side_in s);
-          rounds = by_side s (half_up (K * 1) (2 ^ suc i)) (half_up (m * up e) (down e)) (last ∙ to-limit L (half_up (m * up e) (down e)) g);
+          rounds = by_side s (half_up (K * 1) (2 ^ suc i)) (half_up (m * up e) (down e)) (last ∙ to_limit L (half_up (m * up e) (down e)) g);
           differs = rw (ne_eqb (K * 1 * down e) (m * up e * 2 ^ suc i) (λ q. omega arith), outside_side s (half_up (m * up e) (down e)), lt-ltb L (half_up (m * up e) (down e)) g) refl;
         }
       where
-        to-limit : (l b : ℕ) → l < b → l ≡ min b l
-        to-limit l b h = omega arith
+        to_limit : (l b : ℕ) → l < b → l ≡ min b l
+        to_limit l b h = omega arith
     held_to false h =
         let l : m * up e * 2 ^ suc i ≤ K * down e = omega (arith, ltb-false (K * 1 * down e) (m * up e * 2 ^ suc i) h) in
         let g : half_up (m * up e) (down e) ≤ L = half_up_within L (m * up e) (down e) (down_pos e) (within l) in
         record {
           small = le_trans g (side_in s);
-          rounds = by_side s (half_up (m * up e) (down e)) (half_up (m * up e) (down e)) (as-it-is L (half_up (m * up e) (down e)) g);
+          rounds = by_side s (half_up (m * up e) (down e)) (half_up (m * up e) (down e)) (as_it_is L (half_up (m * up e) (down e)) g);
           differs = equals_itself s m e ∙ sym (outside_side s (half_up (m * up e) (down e)) ∙ le-ltb L (half_up (m * up e) (down e)) g);
         }
       where
-        as-it-is : (l b : ℕ) → b ≤ l → b ≡ min b l
-        as-it-is l b h = omega arith
+        as_it_is : (l b : ℕ) → b ≤ l → b ≡ min b l
+        as_it_is l b h = omega arith
 
 low_rounds : half_up 8388735 256 ≡ 32768
 unfolding half_up
@@ -138,9 +138,9 @@ unfolding held_float magnitude round_sat clipped lt eq ne
 held nan f = record { small = omega arith; rounds = refl; differs = refl }
 held (inf true) f = record { small = rw low_rounds (omega arith); rounds = rw low_rounds refl; differs = refl }
 held (inf false) f = record { small = rw high_rounds (omega arith); rounds = rw high_rounds refl; differs = refl }
-held (fin true m e) f = below-high (ltb (8388735 * down e) (m * up e * 256)) (held_to true 8388735 7 m e f (omega arith) low_rounds (λ h. omega arith) (λ h. omega (arith, down_pos e)) _ refl)
+held (fin true m e) f = below_high (ltb (8388735 * down e) (m * up e * 256)) (held_to true 8388735 7 m e f (omega arith) low_rounds (λ h. omega arith) (λ h. omega (arith, down_pos e)) _ refl)
   where
-    below-high : (t : Bool) → Held (fin true m e) (cond t (fin true 8388735 (negsuc 7)) (fin true m e)) → Held (fin true m e) (at_most (fin false 16776959 (negsuc 8)) (cond t (fin true 8388735 (negsuc 7)) (fin true m e)))
-    below-high true r = r
-    below-high false r = r
+    below_high : (t : Bool) → Held (fin true m e) (cond t (fin true 8388735 (negsuc 7)) (fin true m e)) → Held (fin true m e) (at_most (fin false 16776959 (negsuc 8)) (cond t (fin true 8388735 (negsuc 7)) (fin true m e)))
+    below_high true r = r
+    below_high false r = r
 held (fin false m e) f = held_to false 16776959 8 m e f (omega arith) high_rounds (λ h. omega arith) (λ h. omega (arith, down_pos e)) (ltb (16776959 * down e) (m * up e * 512)) refl

@@ -167,11 +167,11 @@ module _ (a d n : ℕ) (below : n * (d * 2 ^ 28) * 2 < a * (2 ^ 28 + 1) * 2 + d 
   positive_above = omega arith
 
   module _ (N z : ℕ) (sum_is_lem : N + a * (2 ^ 28 + 1) ≡ 3 * 2 ^ 51 * (d * 2 ^ 28)) (z-is : z + n ≡ 3 * 2 ^ 51) where
-    negative-below : z * (d * 2 ^ 28) * 2 < N * 2 + d * 2 ^ 28
-    negative-below = omega (arith, ap (λ (y : ℕ). y * d) z-is)
+    negative_below : z * (d * 2 ^ 28) * 2 < N * 2 + d * 2 ^ 28
+    negative_below = omega (arith, ap (λ (y : ℕ). y * d) z-is)
 
-    negative-above : N * 2 < z * (d * 2 ^ 28) * 2 + d * 2 ^ 28
-    negative-above = omega (arith, ap (λ (y : ℕ). y * d) z-is)
+    negative_above : N * 2 < z * (d * 2 ^ 28) * 2 + d * 2 ^ 28
+    negative_above = omega (arith, ap (λ (y : ℕ). y * d) z-is)
 
   under : 0 < d → n ≤ 32768 → a * (2 ^ 28 + 1) < 3 * 2 ^ 51 * (d * 2 ^ 28)
   under D h = omega (arith, mul-le-mul_right d h)
@@ -208,4 +208,4 @@ lowest (fin true m e) f t h =
     let w : z + n ≡ 3 * 2 ^ 51 = omega arith in
     lowest_of (fin true m e) N (d * 2 ^ 28) z
     (sum_negative (mul binary64 (fin true m e) nudge) (a * (2 ^ 28 + 1)) (d * 2 ^ 28) N D (product true m e l (down_within true m e f)) u.0 u.1)
-    (negative-below a d n lo hi N z u.0 w) (negative-above a d n lo hi N z u.0 w) (omega arith) (omega arith) (low_bits_negative n h)
+    (negative_below a d n lo hi N z u.0 w) (negative_above a d n lo hi N z u.0 w) (omega arith) (omega arith) (low_bits_negative n h)

@@ -109,7 +109,7 @@ module _ (s : Bool) (q k : ℕ) where
     | inr h ↦
         let q-is : q ≡ 16777216 = elim (eq-or-lt_of_le b) [
           | inl e ↦ e
-          | inr l ↦ absurd (not-le_of_lt (lt_of_lt_of_le (shl_lt 24 k l) (pow_mono {j = 277} (up-to k d))) h)
+          | inr l ↦ absurd (not-le_of_lt (lt_of_lt_of_le (shl_lt 24 k l) (pow_mono {j = 277} (up_to_lem k d))) h)
         ] in
         let k_is : k ≡ 253 = elim (eq-or-lt_of_le d) [
           | inl e ↦ e
@@ -118,8 +118,8 @@ module _ (s : Bool) (q k : ℕ) where
         bits_over h ∙ ap (λ (x : ℕ). sign s + x) (sym (ap (λ (x : ℕ). x * 8388608 + q) k_is ∙ ap (λ (x : ℕ). 253 * 8388608 + x) q-is))
   ]
     where
-      up-to : (k : ℕ) → k ≤ 253 → 24 + k ≤ 277
-      up-to k h = omega arith
+      up_to_lem : (k : ℕ) → k ≤ 253 → 24 + k ≤ 277
+      up_to_lem k h = omega arith
 
 -- ---- the rounding of M * 2 ^ x / 2 ^ 1074, an f64's value
 swap : (m p a b c : ℕ) → a * b ≡ c → m * p * a * b ≡ m * (c * p)
@@ -152,22 +152,22 @@ module _ (s : Bool) (M : ℕ) (hi : M < 2 ^ 53) where
         cut : (t : ℕ) → suc (23 + t) - 24 ≡ t
         cut t = omega arith
 
-    from-wide : (x : ℕ) → x ≡ 896 + t → round binary32 s (M * 2 ^ x) (2 ^ 1074) ≡ round binary32 s (M * 2 ^ t) (2 ^ 178)
-    from-wide x e =
+    from_wide : (x : ℕ) → x ≡ 896 + t → round binary32 s (M * 2 ^ x) (2 ^ 1074) ≡ round binary32 s (M * 2 ^ t) (2 ^ 178)
+    from_wide x e =
         round_same binary32 s (M * 2 ^ x) (2 ^ 1074) (M * 2 ^ t) (2 ^ 178) (pow_pos 1074) (pow_pos 178)
         (ap (λ (y : ℕ). M * y * 2 ^ 178) (ap (λ (y : ℕ). 2 ^ y) e ∙ pow-add 2 896 t ∙ mul_comm (2 ^ 896) (2 ^ t)) ∙ ap (λ (y : ℕ). y * 2 ^ 178) (sym (mul_assoc M (2 ^ t) (2 ^ 896))) ∙ mul_assoc (M * 2 ^ t) (2 ^ 896) (2 ^ 178))
 
-    kept-le : closest M (2 ^ 29) ≤ 16777216
-    kept-le = closest_le M (2 ^ 29) 16777216 ((div-lt_iff_lt-mul (pow_pos 29)).1 hi)
+    kept_le : closest M (2 ^ 29) ≤ 16777216
+    kept_le = closest_le M (2 ^ 29) 16777216 ((div-lt_iff_lt-mul (pow_pos 29)).1 hi)
 
-    kept-ge : 8388608 ≤ closest M (2 ^ 29)
-    kept-ge = closest_ge M (2 ^ 29) 8388608 ((le-div_iff_mul-le (pow_pos 29)).1 lo)
+    kept_ge : 8388608 ≤ closest M (2 ^ 29)
+    kept_ge = closest_ge M (2 ^ 29) 8388608 ((le-div_iff_mul-le (pow_pos 29)).1 lo)
 
-    pub mid-bits : (x : ℕ) → x ≡ 896 + t → t ≤ 253 → to_bits binary32 (round binary32 s (M * 2 ^ x) (2 ^ 1074)) ≡ sign s + (t * 8388608 + closest M (2 ^ 29))
-    mid-bits x e d = ap (to_bits binary32) (from-wide x e ∙ normal) ∙ bits_of s (closest M (2 ^ 29)) t kept-le (inr kept-ge) d
+    pub mid_bits : (x : ℕ) → x ≡ 896 + t → t ≤ 253 → to_bits binary32 (round binary32 s (M * 2 ^ x) (2 ^ 1074)) ≡ sign s + (t * 8388608 + closest M (2 ^ 29))
+    mid_bits x e d = ap (to_bits binary32) (from_wide x e ∙ normal) ∙ bits_of s (closest M (2 ^ 29)) t kept_le (inr kept_ge) d
 
-    pub over-bits : (x : ℕ) → x ≡ 896 + t → 254 ≤ t → to_bits binary32 (round binary32 s (M * 2 ^ x) (2 ^ 1074)) ≡ sign s + 2139095040
-    over-bits x e d = ap (to_bits binary32) (from-wide x e ∙ normal) ∙ bits_over s (closest M (2 ^ 29)) t (le_trans (lit≤ {m = 2 ^ 277} {n = 8388608 * 2 ^ 254} tt) (mul-le-mul kept-ge (pow_mono d)))
+    pub over_bits : (x : ℕ) → x ≡ 896 + t → 254 ≤ t → to_bits binary32 (round binary32 s (M * 2 ^ x) (2 ^ 1074)) ≡ sign s + 2139095040
+    over_bits x e d = ap (to_bits binary32) (from_wide x e ∙ normal) ∙ bits_over s (closest M (2 ^ 29)) t (le_trans (lit≤ {m = 2 ^ 277} {n = 8388608 * 2 ^ 254} tt) (mul-le-mul kept_ge (pow_mono d)))
 
   -- below it every digit counts smallest values
   module _ (x : ℕ) (d : x ≤ 895) where
@@ -175,16 +175,16 @@ module _ (s : Bool) (M : ℕ) (hi : M < 2 ^ 53) where
     few =
         none (size (M * 2 ^ x * 2 ^ 149 / 2 ^ 1074))
         (size-le (M * 2 ^ x * 2 ^ 149 / 2 ^ 1074) 24
-        ((div-lt_iff_lt-mul (pow_pos 1074)).1 (lt_of_lt_of_le (mul-lt-mul_of_pos_right (lt_of_lt_of_le (shl_lt 53 x hi) (pow_mono {j = 948} (up-to x d))) (pow_pos 149)) (lit≤ {m = 2 ^ 948 * 2 ^ 149} {n = 2 ^ 24 * 2 ^ 1074} tt))))
+        ((div-lt_iff_lt-mul (pow_pos 1074)).1 (lt_of_lt_of_le (mul-lt-mul_of_pos_right (lt_of_lt_of_le (shl_lt 53 x hi) (pow_mono {j = 948} (up_to_lem x d))) (pow_pos 149)) (lit≤ {m = 2 ^ 948 * 2 ^ 149} {n = 2 ^ 24 * 2 ^ 1074} tt))))
       where
-        up-to : (x : ℕ) → x ≤ 895 → 53 + x ≤ 948
-        up-to x h = omega arith
+        up_to_lem : (x : ℕ) → x ≤ 895 → 53 + x ≤ 948
+        up_to_lem x h = omega arith
 
         none : (z : ℕ) → z ≤ 24 → z - 24 ≡ 0
         none z h = omega arith
 
-    kept-is : closest (M * 2 ^ x * 2 ^ 149) (2 ^ 1074) ≡ closest M (2 ^ min 63 (925 - x))
-    kept-is = elim (lt_or_ge x 862) [
+    kept_is : closest (M * 2 ^ x * 2 ^ 149) (2 ^ 1074) ≡ closest M (2 ^ min 63 (925 - x))
+    kept_is = elim (lt_or_ge x 862) [
       | inl l ↦
           closest_zero (M * 2 ^ x * 2 ^ 149) (2 ^ 1074)
           (lt_of_lt_of_le (mul-lt-mul_of_pos_right (mul-lt-mul_of_pos_right (lt_of_lt_of_le (shl_lt 53 x hi) (pow_mono {j = 914} (far x l))) (pow_pos 149)) (pow_pos 1)) (lit≤ {m = 2 ^ 914 * 2 ^ 149 * 2} {n = 2 ^ 1074} tt))
@@ -210,8 +210,8 @@ module _ (s : Bool) (M : ℕ) (hi : M < 2 ^ 53) where
         whole : (x : ℕ) → x ≤ 895 → x + (925 - x) ≡ 925
         whole x h = omega arith
 
-    small-le : closest M (2 ^ min 63 (925 - x)) ≤ 16777216
-    small-le = closest_le M (2 ^ min 63 (925 - x)) 16777216 ((div-lt_iff_lt-mul (pow_pos (min 63 (925 - x)))).1 (lt_of_lt_of_le hi (mul-le-mul {n₁ = 16777216} {m₁ = 2 ^ 29} (le_of_eq refl) (pow_mono (at_least x d)))))
+    small_le : closest M (2 ^ min 63 (925 - x)) ≤ 16777216
+    small_le = closest_le M (2 ^ min 63 (925 - x)) 16777216 ((div-lt_iff_lt-mul (pow_pos (min 63 (925 - x)))).1 (lt_of_lt_of_le hi (mul-le-mul {n₁ = 16777216} {m₁ = 2 ^ 29} (le_of_eq refl) (pow_mono (at_least x d)))))
       where
         at_least : (x : ℕ) → x ≤ 895 → 29 ≤ min 63 (925 - x)
         at_least x h = omega arith
@@ -219,8 +219,8 @@ module _ (s : Bool) (M : ℕ) (hi : M < 2 ^ 53) where
     pub low_bits : to_bits binary32 (round binary32 s (M * 2 ^ x) (2 ^ 1074)) ≡ sign s + closest M (2 ^ min 63 (925 - x))
     low_bits =
         ap (to_bits binary32)
-        (round_is binary32 s (M * 2 ^ x) (2 ^ 1074) ∙ ap (core binary32 s (M * 2 ^ x * 2 ^ 149) (2 ^ 1074)) few ∙ ap (λ (y : ℕ). units binary32 s y 0) kept-is)
-        ∙ bits_of s (closest M (2 ^ min 63 (925 - x))) 0 small-le (inl refl) (lit≤ tt)
+        (round_is binary32 s (M * 2 ^ x) (2 ^ 1074) ∙ ap (core binary32 s (M * 2 ^ x * 2 ^ 149) (2 ^ 1074)) few ∙ ap (λ (y : ℕ). units binary32 s y 0) kept_is)
+        ∙ bits_of s (closest M (2 ^ min 63 (925 - x))) 0 small_le (inl refl) (lit≤ tt)
         ∙ ap (λ (y : ℕ). sign s + y) (zero-add (closest M (2 ^ min 63 (925 - x))))
 
 -- ---- by the fields of an f64
@@ -261,7 +261,7 @@ module _ (s : Bool) (t : ℕ) (h : t < 4503599627370496) where
   at_mid zero g l = absurd (omega arith)
   at_mid (suc x) g l =
       ap (to_bits binary32) (rounded x (omega arith))
-      ∙ mid-bits s (4503599627370496 + t) in_range (suc x - 897) lead x (omega arith) (omega arith)
+      ∙ mid_bits s (4503599627370496 + t) in_range (suc x - 897) lead x (omega arith) (omega arith)
       ∙ ap (λ (y : ℕ). sign s + ((suc x - 897) * 8388608 + closest y (2 ^ 29))) (add_comm 4503599627370496 t)
       ∙ ap (λ (y : ℕ). sign s + ((suc x - 897) * 8388608 + closest (t + 4503599627370496) (2 ^ y))) (same x g)
     where
@@ -273,7 +273,7 @@ module _ (s : Bool) (t : ℕ) (h : t < 4503599627370496) where
   at_high zero g l z = absurd (omega arith)
   at_high (suc x) g l z = elim (eq-or-lt_of_le l) [
     | inl e ↦ ap (λ (v : Float). to_bits binary32 (narrowed v)) (fields_top binary64 s x t e (z e))
-    | inr b ↦ ap (to_bits binary32) (rounded x b) ∙ over-bits s (4503599627370496 + t) in_range (suc x - 897) lead x (omega arith) (omega arith)
+    | inr b ↦ ap (to_bits binary32) (rounded x b) ∙ over_bits s (4503599627370496 + t) in_range (suc x - 897) lead x (omega arith) (omega arith)
   ]
 
 -- ---- of an f64, by its pattern

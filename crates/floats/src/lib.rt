@@ -1,5 +1,6 @@
 // Floats by their bits: patterns, rounding to whole numbers and samples, and narrowing to binary32 (lib.rs, biquad.rs).
 #![tactic(auto)]
+
 ghost use Rattle.std.specs.Prelude.{◌≡◌, ◌≤◌, ◌<◌, ◌-◌, ◌%◌, ◌^◌, min, max, cond, leb, pos, neg_ℤ};
 ghost use Rattle.std.specs.Float.{binary32};
 ghost use Rattle.std.specs.Float.Ieee.{of_bits};

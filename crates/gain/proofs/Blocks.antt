@@ -22,9 +22,9 @@ module _ (q : ℤ) (input out₀ : List ℕ) (whole : length input % 2 ≡ 0) (r
   scaling_start = record { inside = omega arith; even = refl; writing = writing_start _ _ _ (sym (length_scaled q input whole)) }
 
   module _ {out : List ℕ} {i : ℕ} (s : Scaling q input (length input) out₀ out i) where
-    pub scaling-next : {out' : List ℕ} {x y : ℤ} → i < length input → x ≡ sample_at input i → y ≡ scaled q x → out' ≡ stored out i y → Scaling q input (length input) out₀ out' (i + 2)
+    pub scaling_next : {out' : List ℕ} {x y : ℤ} → i < length input → x ≡ sample_at input i → y ≡ scaled q x → out' ≡ stored out i y → Scaling q input (length input) out₀ out' (i + 2)
     unfolding sample_at scaled_bytes
-    scaling-next h e f g =
+    scaling_next h e f g =
         let even = s.even in
         record {
           inside = omega arith;
@@ -32,6 +32,6 @@ module _ (q : ℤ) (input out₀ : List ℕ) (whole : length input % 2 ≡ 0) (r
           writing = writing_put (writing_as s.writing (ap (scaled_bytes q) (next_pair input i (omega arith)))) g (f ∙ ap (scaled q) e) (omega arith) room;
         }
 
-    pub scaling-end : length input ≤ i → out ≡ written (scaled_bytes q input) out₀
+    pub scaling_end : length input ≤ i → out ≡ written (scaled_bytes q input) out₀
     unfolding scaled_bytes
-    scaling-end h = let inside = s.inside in writing_end (scaled_bytes q) input i s.writing h refl (omega arith)
+    scaling_end h = let inside = s.inside in writing_end (scaled_bytes q) input i s.writing h refl (omega arith)

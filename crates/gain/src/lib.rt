@@ -1,5 +1,6 @@
 // `Gain`: fixed-point Q15 gain with rounding and saturation (elements/gain.rs).
 #![tactic(auto)]
+
 ghost use Rattle.std.specs.Prelude.{◌≡◌, min, ◌≤◌, ◌%◌, pos, neg_ℤ, nat_abs, ◌-ℤ◌, ◌*ℤ◌, length};
 ghost use Rattle.pcm.specs.Integers.{−, floor_div};
 ghost use Rattle.pcm.specs.Samples.{decode, held16, outside};

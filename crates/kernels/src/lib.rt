@@ -1,6 +1,7 @@
 // The block functions, and the opening of a resampler, for a caller in another language, to be timed. A caller tests what each requires.
 // Gain, mix and filters answer how many samples they held back.
 #![tactic(auto)]
+
 ghost use Rattle.std.specs.Prelude.{◌≡◌, ◌*◌, ◌/◌, ◌%◌, ◌≤◌, nat_abs, length};
 ghost use Rattle.pcm.specs.Samples.{decode};
 ghost use Rattle.pcm.specs.Frames.{frames_of, bytes_of, written};

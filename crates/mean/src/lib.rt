@@ -1,5 +1,6 @@
 // The mean of two samples, as stereo to mono takes it (elements/channels.rs; document 02, Q-6).
 #![tactic(auto)]
+
 ghost use Rattle.std.specs.Prelude.{◌≡◌, ◌%◌, eqb, nat_abs};
 ghost use Rattle.mean.specs.Mean.{mean};
 

@@ -94,12 +94,12 @@ module _ (f : PcmFormat) (channels : f.channels < 65536) where
 
   opened_storable : (bytes : List ℕ) → (open_call f bytes).verdict ≡ Accepted → All HeldStage (open_call f bytes).chain.stages → Storable (open_call f bytes).chain
   unfolding open_call
-  opened_storable bytes = by-format (format_allowed f) (open_stages 8 f bytes) refl
+  opened_storable bytes = by_format (format_allowed f) (open_stages 8 f bytes) refl
     where
-      by-format : (b : Bool) (x : Stages) → open_stages 8 f bytes ≡ x → (answer_of b x).verdict ≡ Accepted → All HeldStage (answer_of b x).chain.stages → Storable (answer_of b x).chain
-      by-format true (opened ss) q e held = chain_storable ss (opened_few 8 f bytes ss q) (small_opened 8 f bytes ss q) held
-      by-format true (refused r) q e held = chain_storable [] (omega arith) tt held
-      by-format false x q e held = chain_storable [] (omega arith) tt held
+      by_format : (b : Bool) (x : Stages) → open_stages 8 f bytes ≡ x → (answer_of b x).verdict ≡ Accepted → All HeldStage (answer_of b x).chain.stages → Storable (answer_of b x).chain
+      by_format true (opened ss) q e held = chain_storable ss (opened_few 8 f bytes ss q) (small_opened 8 f bytes ss q) held
+      by_format true (refused r) q e held = chain_storable [] (omega arith) tt held
+      by_format false x q e held = chain_storable [] (omega arith) tt held
 
   -- after an opening the words stand for the chain opened
   pub open_stands : (bytes w : List ℕ) → (open_call f bytes).verdict ≡ Accepted → All HeldStage (open_call f bytes).chain.stages → chain_of_words (written (words_of (open_call f bytes).chain) w) ≡ (open_call f bytes).chain

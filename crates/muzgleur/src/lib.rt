@@ -1,5 +1,6 @@
 // The proved calls on a chain that the caller keeps as plain words. None requires anything of its caller. `muzgleur_c` exports them to C and Rust.
 #![tactic(auto)]
+
 ghost use Rattle.std.specs.Prelude.{◌≡◌};
 ghost use Rattle.pipeline.specs.Opening.{open_call};
 ghost use Rattle.pipeline.specs.Reset.{output_format, reset_call};

@@ -33,32 +33,32 @@ module _ {bytes : List ℕ} {at : ℕ} {done : List ℕ} (w : Walked bytes at do
     all : WholeRecords (drop at bytes ∷ records (after_next (drop at bytes)))
     all = rw (records_next (drop at bytes) some) at w.whole
 
-    pub next-whole : Whole (drop at bytes)
-    next-whole = whole_record (drop at bytes) all.0
+    pub next_whole : Whole (drop at bytes)
+    next_whole = whole_record (drop at bytes) all.0
 
-    pub next-within : at + (2 + length_at (drop at bytes)) ≤ length bytes
-    next-within = omega (arith, next-whole.there, length-drop at bytes)
+    pub next_within : at + (2 + length_at (drop at bytes)) ≤ length bytes
+    next_within = omega (arith, next_whole.there, length-drop at bytes)
 
     pub next_four : at + 4 ≤ length bytes
-    next_four = omega (arith, next-whole.four, length-drop at bytes)
+    next_four = omega (arith, next_whole.four, length-drop at bytes)
 
-    pub kind-there : word_at 2 (at + 2) bytes ≡ kind_at (drop at bytes)
-    kind-there = ap (λ (l : List ℕ). word_of (take 2 l)) (sym (drop-drop 2 at bytes))
+    pub kind_there : word_at 2 (at + 2) bytes ≡ kind_at (drop at bytes)
+    kind_there = ap (λ (l : List ℕ). word_of (take 2 l)) (sym (drop-drop 2 at bytes))
 
     after_is : after_next (drop at bytes) ≡ drop (at + (2 + length_at (drop at bytes))) bytes
     after_is = drop-drop (2 + length_at (drop at bytes)) at bytes
 
     pub walked_next : Walked bytes (at + (2 + length_at (drop at bytes))) (done ++ line_here (drop at bytes))
     walked_next = record {
-      within = next-within;
+      within = next_within;
       whole = rw after_is at all.1;
       is =
           w.is ∙ ap (λ (l : List ℕ). done ++ l) (lines_next (drop at bytes) some ∙ ap (λ (l : List ℕ). line_here (drop at bytes) ++ record_lines (records l)) after_is)
           ∙ sym (append_assoc done (line_here (drop at bytes)) (record_lines (records (drop (at + (2 + length_at (drop at bytes))) bytes))));
     }
 
-    pub line-room : length done + length (line_here (drop at bytes)) ≤ length (lines_of bytes)
-    line-room =
+    pub line_room : length done + length (line_here (drop at bytes)) ≤ length (lines_of bytes)
+    line_room =
         omega (
           arith,
           length-append done (line_here (drop at bytes)),
@@ -67,7 +67,7 @@ module _ {bytes : List ℕ} {at : ℕ} {done : List ℕ} (w : Walked bytes at do
         )
 
     -- the record's bytes after its kind, as the code takes them
-    pub text-there : take (at + (2 + length_at (drop at bytes)) - (at + 4)) (drop (at + 4) bytes) ≡ (note_at (drop at bytes)).text
-    text-there =
+    pub text_there : take (at + (2 + length_at (drop at bytes)) - (at + 4)) (drop (at + 4) bytes) ≡ (note_at (drop at bytes)).text
+    text_there =
         let e : at + (2 + length_at (drop at bytes)) - (at + 4) ≡ length_at (drop at bytes) - 2 = omega arith in
         rw e (ap (take (length_at (drop at bytes) - 2)) (sym (drop-drop 4 at bytes)))

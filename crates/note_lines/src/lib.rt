@@ -1,5 +1,6 @@
 // The desk program's page: a line for each note of a recipe, or the refusal's number (document 02, Q-4).
 #![tactic(auto)]
+
 ghost use Rattle.std.specs.Prelude.{◌≡◌, cond, map, ◌+◌, ◌*◌, ◌≤◌, ◌<◌, length};
 ghost use Rattle.std.proofs.lemmas.List.Edits.{sets};
 ghost use Rattle.pcm.specs.Frames.{flat, written};

@@ -1,5 +1,6 @@
 // The questions of a record that was read whole, and the stage that it opens.
 #![tactic(auto)]
+
 ghost use Rattle.std.specs.Prelude.{◌≡◌, true, ◌-◌};
 ghost use Rattle.pcm.specs.Formats.{rate_allowed};
 ghost use Rattle.rates.specs.Rates.{rates_allowed, reduced};

@@ -1,5 +1,6 @@
 // Formats, refusals, limits and 16-bit samples, low byte first (lib.rs, elements/mod.rs).
 #![tactic(auto)]
+
 ghost use Rattle.std.specs.Prelude.{◌≡◌, ◌+◌, ◌<◌, length};
 ghost use Rattle.pcm.specs.Formats.{rate_allowed, format_allowed, frame_bytes};
 ghost use Rattle.pcm.specs.Refusals.{refusal, number_of, room_verdict};

@@ -25,7 +25,7 @@ use Rattle.opening.specs.declared.StageAnswer.TheVariants as answer
 use Rattle.pipeline.specs.Opening.{Stages, opened, refused, front, open_stages, chain_of, open_call, unused_stage}
 use Rattle.opening.specs.Opening.{stage_answer, stage_verdict, stage_kind_of}
 use Rattle.pipeline.proofs.OpeningLaws.{StageRead, read_stage, NoteRead, read_note, read_refused, rate_after}
-use Rattle.pipeline.specs.laws.Opening.{stage_accepted, stage_refused, stage_fits, open_none, open_short, open-note, open-unfit, open_next}
+use Rattle.pipeline.specs.laws.Opening.{stage_accepted, stage_refused, stage_fits, open_none, open_short, open_note, open_unfit, open_next}
 
 -- stages before what is left to open
 abbrev pub joined : List Stage → Stages → Stages
@@ -74,34 +74,34 @@ module _ {f : PcmFormat} {bytes : List ℕ} {stages : List Stage} {reaching : Pc
 
   module _ (h : at < length bytes) where
     -- the next record's bytes are refused
-    pub opens-short : {x : Error} → read_record (drop at bytes) ≡ read.Refused x → open_stages 8 f bytes ≡ refused x
-    opens-short e = o.is ∙ ap (joined o.done) (open_short reaching (8 - count) (drop at bytes) (bytes_left h) (read_refused (drop at bytes) e))
+    pub opens_short : {x : Error} → read_record (drop at bytes) ≡ read.Refused x → open_stages 8 f bytes ≡ refused x
+    opens_short e = o.is ∙ ap (joined o.done) (open_short reaching (8 - count) (drop at bytes) (bytes_left h) (read_refused (drop at bytes) e))
 
     -- the next record is a note
     module _ {n : ℕ} (e : read_record (drop at bytes) ≡ read.Entry (entry.Note n)) where
       noted : NoteRead (drop at bytes) n
       noted = read_note (drop at bytes) e
 
-      whole-note : Whole (drop at bytes)
-      whole-note = whole_record (drop at bytes) noted.accepted
+      whole_note : Whole (drop at bytes)
+      whole_note = whole_record (drop at bytes) noted.accepted
 
-      note-size : 2 + length_at (drop at bytes) ≡ 4 + n
-      note-size = omega (arith, noted.length_is, whole-note.two)
+      note_size : 2 + length_at (drop at bytes) ≡ 4 + n
+      note_size = omega (arith, noted.length_is, whole_note.two)
 
-      pub note-within : at + (4 + n) ≤ length bytes
-      note-within = omega (arith, note-size, whole-note.there, length-drop at bytes)
+      pub note_within : at + (4 + n) ≤ length bytes
+      note_within = omega (arith, note_size, whole_note.there, length-drop at bytes)
 
-      pub opens-note : Opens f bytes stages reaching count (at + (4 + n))
-      opens-note = record {
+      pub opens_note : Opens f bytes stages reaching count (at + (4 + n))
+      opens_note = record {
         done = o.done;
         many = o.many;
         few = o.few;
         placed = o.placed;
         rate = o.rate;
-        within = note-within;
+        within = note_within;
         is =
-            o.is ∙ ap (joined o.done) (open-note reaching (8 - count) (drop at bytes) (bytes_left h) noted.accepted noted.note
-            ∙ ap (open_stages (8 - count) reaching) (drop-drop (2 + length_at (drop at bytes)) at bytes ∙ ap (λ (m : ℕ). drop (at + m) bytes) note-size));
+            o.is ∙ ap (joined o.done) (open_note reaching (8 - count) (drop at bytes) (bytes_left h) noted.accepted noted.note
+            ∙ ap (open_stages (8 - count) reaching) (drop-drop (2 + length_at (drop at bytes)) at bytes ∙ ap (λ (m : ℕ). drop (at + m) bytes) note_size));
       }
 
     -- the next record is a stage's
@@ -115,56 +115,56 @@ module _ {f : PcmFormat} {bytes : List ℕ} {stages : List Stage} {reaching : Pc
       size_is : length (record_bytes r) ≡ 2 + length_at (drop at bytes)
       size_is = rw found.is at (size_read (drop at bytes) (whole_stage (drop at bytes) whole found.stage))
 
-      pub opens-size : at + length (record_bytes r) ≤ length bytes
-      opens-size = omega (arith, size_is, whole.there, length-drop at bytes)
+      pub opens_size : at + length (record_bytes r) ≤ length bytes
+      opens_size = omega (arith, size_is, whole.there, length-drop at bytes)
 
       -- its stage is refused
-      pub opens-unfit : {x : Error} → stage_answer (8 - count) reaching r ≡ answer.Refused x → open_stages 8 f bytes ≡ refused x
-      opens-unfit q = o.is ∙ ap (joined o.done) (open-unfit reaching (8 - count) (drop at bytes) (bytes_left h) found.accepted found.stage (rw found.is (stage_refused (8 - count) reaching r q)))
+      pub opens_unfit : {x : Error} → stage_answer (8 - count) reaching r ≡ answer.Refused x → open_stages 8 f bytes ≡ refused x
+      opens_unfit q = o.is ∙ ap (joined o.done) (open_unfit reaching (8 - count) (drop at bytes) (bytes_left h) found.accepted found.stage (rw found.is (stage_refused (8 - count) reaching r q)))
 
       -- its stage is taken
       module _ {k : StageKind} (q : stage_answer (8 - count) reaching r ≡ answer.Stage k) where
-        pub opens-room : count < 8
-        opens-room = let m = (stage_fits (8 - count) reaching r (stage_accepted (8 - count) reaching r q).0).0 in omega arith
+        pub opens_room : count < 8
+        opens_room = let m = (stage_fits (8 - count) reaching r (stage_accepted (8 - count) reaching r q).0).0 in omega arith
 
-        kind-is : stage_kind_of reaching (record_at (drop at bytes)) ≡ k
-        kind-is = rw found.is (stage_accepted (8 - count) reaching r q).1
+        kind_is : stage_kind_of reaching (record_at (drop at bytes)) ≡ k
+        kind_is = rw found.is (stage_accepted (8 - count) reaching r q).1
 
         fewer : 8 - count ≡ suc (7 - count)
-        fewer = let m = opens-room in omega arith
+        fewer = let m = opens_room in omega arith
 
-        fewer-next : 8 - (count + 1) ≡ 7 - count
-        fewer-next = let m = opens-room in omega arith
+        fewer_next : 8 - (count + 1) ≡ 7 - count
+        fewer_next = let m = opens_room in omega arith
 
-        placed-next : set stages count (stage_as_opened k) ≡ (o.done ++ (stage_as_opened k ∷ [])) ++ replicate (8 - (count + 1)) unused_stage
-        placed-next =
+        placed_next : set stages count (stage_as_opened k) ≡ (o.done ++ (stage_as_opened k ∷ [])) ++ replicate (8 - (count + 1)) unused_stage
+        placed_next =
             ap (λ (l : List Stage). set l count (stage_as_opened k)) (o.placed ∙ ap (λ (n : ℕ). o.done ++ replicate n unused_stage) fewer)
             ∙ set_at o.done unused_stage (replicate (7 - count) unused_stage) (stage_as_opened k) count (sym o.many)
             ∙ sym (append_assoc o.done (stage_as_opened k ∷ []) (replicate (7 - count) unused_stage))
-            ∙ ap (λ (n : ℕ). (o.done ++ (stage_as_opened k ∷ [])) ++ replicate n unused_stage) (sym fewer-next)
+            ∙ ap (λ (n : ℕ). (o.done ++ (stage_as_opened k ∷ [])) ++ replicate n unused_stage) (sym fewer_next)
 
         one_fewer : 8 - count - 1 ≡ 8 - (count + 1)
         one_fewer = omega arith
 
-        is-next : open_stages (8 - count) reaching (drop at bytes) ≡ front (stage_as_opened k) (open_stages (8 - (count + 1)) (format_after reaching k) (drop (at + length (record_bytes r)) bytes))
-        is-next =
+        is_next : open_stages (8 - count) reaching (drop at bytes) ≡ front (stage_as_opened k) (open_stages (8 - (count + 1)) (format_after reaching k) (drop (at + length (record_bytes r)) bytes))
+        is_next =
             let v : stage_verdict (8 - count) reaching (record_at (drop at bytes)) ≡ Accepted = rw found.is (stage_accepted (8 - count) reaching r q).0 in
             let d : after_next (drop at bytes) ≡ drop (at + length (record_bytes r)) bytes = drop-drop (2 + length_at (drop at bytes)) at bytes ∙ ap (λ (n : ℕ). drop (at + n) bytes) (sym size_is) in
             open_next reaching (8 - count) (drop at bytes) (bytes_left h) found.accepted found.stage v
-            ∙ ap (λ (x : StageKind). front (stage_as_opened x) (open_stages (8 - count - 1) (format_after reaching x) (after_next (drop at bytes)))) kind-is
+            ∙ ap (λ (x : StageKind). front (stage_as_opened x) (open_stages (8 - count - 1) (format_after reaching x) (after_next (drop at bytes)))) kind_is
             ∙ ap₂ (λ (n : ℕ) (l : List ℕ). front (stage_as_opened k) (open_stages n (format_after reaching k) l)) one_fewer d
 
-        pub opens-next : Opens f bytes (set stages count (stage_as_opened k)) (format_after reaching k) (count + 1) (at + length (record_bytes r))
-        opens-next = record {
+        pub opens_next : Opens f bytes (set stages count (stage_as_opened k)) (format_after reaching k) (count + 1) (at + length (record_bytes r))
+        opens_next = record {
           done = o.done ++ (stage_as_opened k ∷ []);
           many = let l = length-append o.done (stage_as_opened k ∷ []) in let m = o.many in omega arith;
-          few = let m = opens-room in omega arith;
-          placed = placed-next;
+          few = let m = opens_room in omega arith;
+          placed = placed_next;
           rate =
               let a = stage_accepted (8 - count) reaching r q in
               rw a.1 at (rate_after reaching r o.rate (stage_fits (8 - count) reaching r a.0).1);
-          within = opens-size;
-          is = o.is ∙ ap (joined o.done) is-next ∙ joined_front o.done (stage_as_opened k) (open_stages (8 - (count + 1)) (format_after reaching k) (drop (at + length (record_bytes r)) bytes));
+          within = opens_size;
+          is = o.is ∙ ap (joined o.done) is_next ∙ joined_front o.done (stage_as_opened k) (open_stages (8 - (count + 1)) (format_after reaching k) (drop (at + length (record_bytes r)) bytes));
         }
 
 -- ---- the call's answer
@@ -174,13 +174,13 @@ module _ (f : PcmFormat) (bytes : List ℕ) where
   call_format h = rw h
 
   module _ (h : format_allowed f ≡ true) where
-    pub call-refused : {x : Error} → open_stages 8 f bytes ≡ refused x → open_call f bytes ≡ record { verdict = Refused x; chain = chain_of f [] }
+    pub call_refused : {x : Error} → open_stages 8 f bytes ≡ refused x → open_call f bytes ≡ record { verdict = Refused x; chain = chain_of f [] }
     unfolding open_call
-    call-refused e = rw (h, e)
+    call_refused e = rw (h, e)
 
-    pub call-opened : {ss : List Stage} → open_stages 8 f bytes ≡ opened ss → open_call f bytes ≡ record { verdict = Accepted; chain = chain_of f ss }
+    pub call_opened : {ss : List Stage} → open_stages 8 f bytes ≡ opened ss → open_call f bytes ≡ record { verdict = Accepted; chain = chain_of f ss }
     unfolding open_call
-    call-opened e = rw (h, e)
+    call_opened e = rw (h, e)
 
 pub chain_is : (f : PcmFormat) (ss : List Stage) → chain_of f ss ≡ record { stages = ss ++ replicate (8 - length ss) unused_stage; count = length ss; format = f; blocks = 0; empty_blocks = 0 }
 unfolding chain_of

@@ -50,29 +50,29 @@ module _ (f : PcmFormat) (bytes : List ℕ) (c : Pipeline) (e : open_call f byte
 
   module _ (b : Bytes bytes) where
     -- the records of its stages are the bytes that it was opened from, without the notes
-    pub recipe-kept : recipe_of (stages_of c) ≡ without_notes bytes
+    pub recipe_kept : recipe_of (stages_of c) ≡ without_notes bytes
     unfolding open_stages without_notes
-    recipe-kept = let o = opened_from f bytes c e in ap recipe_of stages_are ∙ opened_recipe 8 f (records bytes) o.stages (records_bytes 0 bytes b) o.opens
+    recipe_kept = let o = opened_from f bytes c e in ap recipe_of stages_are ∙ opened_recipe 8 f (records bytes) o.stages (records_bytes 0 bytes b) o.opens
 
     -- every recipe that opens is written back without its notes, whatever its bits; needed is the bytes so written
-    pub opened-writes : (out : List ℕ) → write_call c out ≡ write_outcome (room_verdict (length (without_notes bytes)) (length out)) (without_notes bytes) out
+    pub opened_writes : (out : List ℕ) → write_call c out ≡ write_outcome (room_verdict (length (without_notes bytes)) (length out)) (without_notes bytes) out
     unfolding write_call write_verdict
-    opened-writes out = rw (le-leb c.count 8 opened_count, recipe-kept)
+    opened_writes out = rw (le-leb c.count 8 opened_count, recipe_kept)
 
     -- and unchanged where it holds none
-    pub opened-writes-exactly : notes_in bytes ≡ [] → (out : List ℕ) → write_call c out ≡ write_outcome (room_verdict (length bytes) (length out)) bytes out
-    opened-writes-exactly n = let k = no_notes bytes n in rw k at opened-writes
+    pub opened_writes_exactly : notes_in bytes ≡ [] → (out : List ℕ) → write_call c out ≡ write_outcome (room_verdict (length bytes) (length out)) bytes out
+    opened_writes_exactly n = let k = no_notes bytes n in rw k at opened_writes
 
     -- what a chain writes opens as the same chain as opened, whatever sound the stages have taken since
-    pub written-opens : (d : Pipeline) → d.format ≡ c.format → kinds_of (stages_of d) ≡ kinds_of (stages_of c)
+    pub written_opens : (d : Pipeline) → d.format ≡ c.format → kinds_of (stages_of d) ≡ kinds_of (stages_of c)
         → open_call d.format (recipe_of (stages_of d)) ≡ record { verdict = Accepted; chain = c }
-    written-opens d g k =
-        ap₂ open_call (g ∙ opened_format) (recipe_of_kinds (stages_of d) (stages_of c) k ∙ recipe-kept) ∙ sym (notes_passed_over f bytes b opened_whole) ∙ e
+    written_opens d g k =
+        ap₂ open_call (g ∙ opened_format) (recipe_of_kinds (stages_of d) (stages_of c) k ∙ recipe_kept) ∙ sym (notes_passed_over f bytes b opened_whole) ∙ e
 
     -- a chain of no stages is a recipe of notes alone
-    pub none-is-empty : c.count ≡ 0 → without_notes bytes ≡ []
+    pub none_is_empty : c.count ≡ 0 → without_notes bytes ≡ []
     unfolding recipe_of
-    none-is-empty z = sym recipe-kept ∙ ap (λ (n : ℕ). recipe_of (take n c.stages)) z
+    none_is_empty z = sym recipe_kept ∙ ap (λ (n : ℕ). recipe_of (take n c.stages)) z
 
 -- the empty recipe is a chain of no stages
 pub empty_is_none : (f : PcmFormat) → format_allowed f ≡ true → open_call f [] ≡ record { verdict = Accepted; chain = chain_of f [] }

@@ -1,5 +1,6 @@
 // A chain of stages, carried by value (pipeline.rs): opened from a recipe and written back to it, without its notes.
 #![tactic(auto)]
+
 ghost use Rattle.std.specs.Prelude.{◌≡◌, length, replicate, []};
 ghost use Rattle.pipeline.specs.Opening.{open_call, unused_stage, chain_of};
 ghost use Rattle.writing.specs.WritingBack.{recipe_of};

@@ -1,5 +1,6 @@
 // The questions of a call, asked in one walk along the stages before any of them moves.
 #![tactic(auto)]
+
 ghost use Rattle.std.specs.Prelude.{◌≡◌, ◌≤◌, ◌<◌};
 ghost use Rattle.stage.specs.Rooms.{Bounded};
 ghost use Rattle.questions.specs.Walk.{same_format, larger, head_legal, size_verdict, block_frames, due_of, first_short, further, stepped, begun, copy_room, WalkFits, sized_from, verdict_from};

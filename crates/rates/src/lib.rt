@@ -1,5 +1,6 @@
 // A resampler's rates, and the frames that it wants and delivers, from the phase alone (resample.rs).
 #![tactic(auto)]
+
 ghost use Rattle.std.specs.Prelude.{◌≡◌, ◌+◌, ◌*◌, ◌/◌, ◌%◌, ◌<◌, ◌^◌};
 ghost use Rattle.pcm.specs.Refusals.{valued};
 ghost use Rattle.rates.specs.Answers.{new_told, rates_told, new_verdict, max_told, max_verdict};

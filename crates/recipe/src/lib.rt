@@ -1,5 +1,6 @@
 // One record of a recipe, read and written (document 01, 'The recipe'; document 02, Q-4).
 #![tactic(auto)]
+
 ghost use Rattle.std.specs.Prelude.{◌≡◌, true, ◌+◌, ◌*◌, ◌≤◌, ◌<◌, length, drop};
 ghost use Rattle.pcm.specs.Frames.{written};
 ghost use Rattle.pcm.specs.declared.Verdict.TheVariants.{Accepted};

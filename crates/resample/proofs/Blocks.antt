@@ -13,7 +13,7 @@ use mir.Val.{SFits, to_z, of_z}
 use Rattle.pcm.specs.laws.Integers.{read_back}
 use Rattle.pcm.specs.Samples.{sample_at}
 use Rattle.pcm.specs.Frames.{Frame, frames_of}
-use Rattle.pcm.specs.laws.Frames.{length_frames, length_frame, sample-of}
+use Rattle.pcm.specs.laws.Frames.{length_frames, length_frame, sample_of_lem}
 use Rattle.rates.specs.Counting.{tabulate, count, past}
 use Rattle.rates.specs.laws.Counting.{tabulate_ext, list_is, count_reach, past_below}
 use Rattle.resample.specs.Resample.{newest, padded, holding, outputs_from, carried_outputs, carried_state}
@@ -76,35 +76,35 @@ module _ (ch i o : ℕ) (s : ResamplerState) (x : Frame) (input out₀ : List �
       let h : g < length input / (ch * 2) = omega (arith, some_frame) in
       newest_is x ys some_frames ∙ ap (λ (n : ℕ). get_or ys (n - 1) []) (length_frames ch input) ∙ list_is (pos 0) (get_or ys g [])
       ∙ ap (λ (n : ℕ). tabulate n (λ c. get_or (get_or ys g []) c (pos 0))) (length_frame ch input r.whole g h)
-      ∙ tabulate_ext ch (λ c. get_or (get_or ys g []) c (pos 0)) (λ c. sample_at input ((g * ch + c) * 2)) (λ c k. sample-of ch input r.whole g c h k)
+      ∙ tabulate_ext ch (λ c. get_or (get_or ys g []) c (pos 0)) (λ c. sample_at input ((g * ch + c) * 2)) (λ c k. sample_of_lem ch input r.whole g c h k)
 
   module _ (out : List ℕ) (d : Delivered) (l : Looped i o (start o s.primed s.phase) (outputs_from i o (start o s.primed s.phase) (x ∷ frames_of ch input)) out₀ out d) where
-    frames-counted : d.frames ≡ count i num (length input / (ch * 2) * o)
-    frames-counted = l.frames_are ∙ total ch i o num x input out₀ loop_ready
+    frames_counted : d.frames ≡ count i num (length input / (ch * 2) * o)
+    frames_counted = l.frames_are ∙ total ch i o num x input out₀ loop_ready
 
-    past-block : length input / (ch * 2) ≤ d.at.frame
-    past-block =
-        let e : length input / (ch * 2) * o ≤ num + d.frames * i = rw frames-counted (count_reach i r.in_r.0 num (length input / (ch * 2) * o)) in
+    past_block : length input / (ch * 2) ≤ d.at.frame
+    past_block =
+        let e : length input / (ch * 2) * o ≤ num + d.frames * i = rw frames_counted (count_reach i r.in_r.0 num (length input / (ch * 2) * o)) in
         subst (λ (g : ℕ). length input / (ch * 2) ≤ g) (frame_is o (num + d.frames * i) d.at l.place) ((le-div_iff_mul-le {x = length input / (ch * 2)} {y = num + d.frames * i} r.out_r.0).1 e)
 
-    phase-carried : (d.at.frame - length input / (ch * 2)) * o + (d.at.frac * o + d.at.over) / 4294967296 ≡ past i num (length input / (ch * 2) * o)
-    phase-carried = past_frames o (num + d.frames * i) d.at l.place (length input / (ch * 2)) past-block ∙ ap (λ (k : ℕ). num + k * i - length input / (ch * 2) * o) frames-counted
+    phase_carried : (d.at.frame - length input / (ch * 2)) * o + (d.at.frac * o + d.at.over) / 4294967296 ≡ past i num (length input / (ch * 2) * o)
+    phase_carried = past_frames o (num + d.frames * i) d.at l.place (length input / (ch * 2)) past_block ∙ ap (λ (k : ℕ). num + k * i - length input / (ch * 2) * o) frames_counted
 
     -- what the way past the block asks
-    pub past-ready : start o s.primed s.phase < 2 ^ 64 → (Parts o d.at × (o ≤ 384000))
+    pub past_ready : start o s.primed s.phase < 2 ^ 64 → (Parts o d.at × (o ≤ 384000))
         × ((length input / (ch * 2) ≤ d.at.frame) × ((d.at.frame - length input / (ch * 2)) * o + (d.at.frac * o + d.at.over) / 4294967296 < 2 ^ 64))
-    past-ready h = (
+    past_ready h = (
       (l.place.parts, r.out_r.1),
-      (past-block, omega (arith, phase-carried, past_below i r.in_r.0 (2 ^ 64) num (length input / (ch * 2) * o) (omega (arith, r.in_r.1)) h)),
+      (past_block, omega (arith, phase_carried, past_below i r.in_r.0 (2 ^ 64) num (length input / (ch * 2) * o) (omega (arith, r.in_r.1)) h)),
     )
 
-    pub block-done : (last : List ℤ) (p : ℕ) → last ≡ padded (tabulate ch (λ c. sample_at input (((length input / (ch * 2) - 1) * ch + c) * 2)))
+    pub block_done : (last : List ℤ) (p : ℕ) → last ≡ padded (tabulate ch (λ c. sample_at input (((length input / (ch * 2) - 1) * ch + c) * 2)))
         → p ≡ (d.at.frame - length input / (ch * 2)) * o + (d.at.frac * o + d.at.over) / 4294967296
         → Processed (carried_outputs i o s (frames_of ch input)) (carried_state i o s (frames_of ch input)) out₀ out (record { frames = d.frames; state = record { last = last; phase = p; primed = true } })
-    block-done last p e f = record {
+    block_done last p e f = record {
       frames_are = rw by_loop l.frames_are;
       bytes_are = rw by_loop l.bytes_are;
       state_is =
-          ap₂ (λ (f : List ℤ) (q : ℕ). record { last = f; phase = q; primed = true }) (e ∙ ap padded (sym newest_samples)) (f ∙ phase-carried)
+          ap₂ (λ (f : List ℤ) (q : ℕ). record { last = f; phase = q; primed = true }) (e ∙ ap padded (sym newest_samples)) (f ∙ phase_carried)
           ∙ sym (carried_state_by_loop i o s x ys some_frames ∙ ap (λ (n : ℕ). holding (newest x ys) (past i num (n * o))) (length_frames ch input));
     }

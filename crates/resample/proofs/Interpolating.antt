@@ -10,7 +10,7 @@ use lib.ListN.{length, get_or, drop, drop_of_length-le}
 use lib.Seq.{drop-cons}
 use Rattle.pcm.specs.Samples.{All, sample_at, low_of, high_of}
 use Rattle.pcm.specs.Frames.{Frame, frames_of, bytes_of, written}
-use Rattle.pcm.specs.laws.Frames.{length_frames, length_frame, length_bytes_sized, sample-of}
+use Rattle.pcm.specs.laws.Frames.{length_frames, length_frame, length_bytes_sized, sample_of_lem}
 use Rattle.pcm.specs.laws.Writing.{Writing, writing_start, writing_done}
 use Rattle.rates.specs.Counting.{tabulate, count}
 use Rattle.rates.specs.laws.Counting.{tabulate_ext, length_tabulate, get_d_tabulate, all_tabulate, count_before, count_after, count_least}
@@ -30,29 +30,29 @@ module _ (ch : ℕ) (x : Frame) (bytes : List ℕ) (whole : length bytes % (ch *
   earlier_sample zero c h k = sym (earlier_first bytes (get_or x c (pos 0)) ((zero * ch + c) * 2) (ch * 2) (omega arith))
   earlier_sample (suc g) c h k =
       let e : (g * ch + c) * 2 ≡ (suc g * ch + c) * 2 - ch * 2 = omega arith in
-      sample-of ch bytes whole g c (omega arith) k ∙ ap (sample_at bytes) e ∙ sym (earlier_inside bytes (get_or x c (pos 0)) ((suc g * ch + c) * 2) (ch * 2) (omega arith))
+      sample_of_lem ch bytes whole g c (omega arith) k ∙ ap (sample_at bytes) e ∙ sym (earlier_inside bytes (get_or x c (pos 0)) ((suc g * ch + c) * 2) (ch * 2) (omega arith))
 
   module _ (o num : ℕ) (p : Position) (h : At o num p) (l : p.frame < length bytes / (ch * 2)) where
     -- sample c of the output at num / out_r, by the samples read and the carried position
     abbrev read : ℕ → ℤ
     read c = interpolated (earlier_of bytes (get_or x c (pos 0)) ((p.frame * ch + c) * 2) (ch * 2)) (sample_at bytes ((p.frame * ch + c) * 2)) p.frac
 
-    pub frame-read : output_at o (x ∷ frames_of ch bytes) num
+    pub frame_read : output_at o (x ∷ frames_of ch bytes) num
         ≡ tabulate ch (λ c. interpolated (earlier_of bytes (get_or x c (pos 0)) ((p.frame * ch + c) * 2) (ch * 2)) (sample_at bytes ((p.frame * ch + c) * 2)) p.frac)
     unfolding output_at blend
-    frame-read =
+    frame_read =
         let g : ℕ = p.frame in
         ap (λ (n : ℕ). blend o (get_or (x ∷ frames_of ch bytes) n []) (get_or (frames_of ch bytes) n []) (num % o)) (frame_is o num p h)
         ∙ ap (λ (n : ℕ). tabulate n (λ c. value o (get_or (get_or (x ∷ frames_of ch bytes) g []) c (pos 0)) (get_or (get_or (frames_of ch bytes) g []) c (pos 0)) (num % o))) (length_frame ch bytes whole g l)
         ∙ tabulate_ext ch (λ c. value o (get_or (get_or (x ∷ frames_of ch bytes) g []) c (pos 0)) (get_or (get_or (frames_of ch bytes) g []) c (pos 0)) (num % o)) read
-        (λ c k. ap₂ (λ (a b : ℤ). value o a b (num % o)) (earlier_sample g c l k) (sample-of ch bytes whole g c l k)
+        (λ c k. ap₂ (λ (a b : ℤ). value o a b (num % o)) (earlier_sample g c l k) (sample_of_lem ch bytes whole g c l k)
         ∙ ap (interpolated (earlier_of bytes (get_or x c (pos 0)) ((g * ch + c) * 2) (ch * 2)) (sample_at bytes ((g * ch + c) * 2))) (frac_is o num p h))
 
 pub mono_frame : (last : ℤ) (bytes : List ℕ) → length bytes % 2 ≡ 0 → (o num : ℕ) (p : Position) → At o num p → p.frame < length bytes / 2
     → output_at o ((last ∷ []) ∷ frames_of 1 bytes) num ≡ interpolated (earlier_of bytes last (p.frame * 2) 2) (sample_at bytes (p.frame * 2)) p.frac ∷ []
 mono_frame last bytes w o num p h l =
     let e : (p.frame * 1 + 0) * 2 ≡ p.frame * 2 = omega arith in
-    frame-read 1 (last ∷ []) bytes w o num p h l ∙ ap (λ (i : ℕ). interpolated (earlier_of bytes last i 2) (sample_at bytes i) p.frac ∷ []) e
+    frame_read 1 (last ∷ []) bytes w o num p h l ∙ ap (λ (i : ℕ). interpolated (earlier_of bytes last i 2) (sample_at bytes i) p.frac ∷ []) e
 
 pub stereo_frame : (left right : ℤ) (bytes : List ℕ) → length bytes % 4 ≡ 0 → (o num : ℕ) (p : Position) → At o num p → p.frame < length bytes / 4
     → output_at o ((left ∷ right ∷ []) ∷ frames_of 2 bytes) num
@@ -61,7 +61,7 @@ pub stereo_frame : (left right : ℤ) (bytes : List ℕ) → length bytes % 4 �
 stereo_frame left right bytes w o num p h l =
     let e : (p.frame * 2 + 0) * 2 ≡ p.frame * 4 = omega arith in
     let e' : (p.frame * 2 + 1) * 2 ≡ p.frame * 4 + 2 = omega arith in
-    frame-read 2 (left ∷ right ∷ []) bytes w o num p h l
+    frame_read 2 (left ∷ right ∷ []) bytes w o num p h l
     ∙ ap₂ (λ (i j : ℕ). interpolated (earlier_of bytes left i 4) (sample_at bytes i) p.frac ∷ interpolated (earlier_of bytes right j 4) (sample_at bytes j) p.frac ∷ []) e e'
 
 bytes-nil : bytes_of [] ≡ []
@@ -119,16 +119,16 @@ module _ (ch i o num : ℕ) (x : Frame) (input : List ℕ) (out₀ : List ℕ) (
         ((div-lt_iff_lt-mul r.out_r.0).0 (subst (λ (g : ℕ). g < length input / (ch * 2)) (sym (frame_is o (num + k * i) p s.place)) l)))
 
     -- and it comes next
-    pub next-frame : p.frame < length input / (ch * 2) → drop k fs ≡ output_at o (x ∷ frames_of ch input) (num + k * i) ∷ drop (suc k) fs
+    pub next_frame : p.frame < length input / (ch * 2) → drop k fs ≡ output_at o (x ∷ frames_of ch input) (num + k * i) ∷ drop (suc k) fs
     unfolding outputs_from
-    next-frame l =
+    next_frame l =
         drop-cons fs k [] (due l)
         ∙ ap (λ (f : Frame). f ∷ drop (suc k) fs) (get_d_tabulate (count i num (length (frames_of ch input) * o)) (λ j. output_at o (x ∷ frames_of ch input) (num + j * i)) k [] (rw length_tabulate at (due l)))
 
-    pub progress-next : {q : Position} {out' : List ℕ} → p.frame < length input / (ch * 2) → At o (num + k * i + i) q
+    pub progress_next : {q : Position} {out' : List ℕ} → p.frame < length input / (ch * 2) → At o (num + k * i + i) q
         → Writing (written (bytes_of fs) out₀) (bytes_of (drop (suc k) fs)) (length fs * (ch * 2)) out₀ out' (k * (ch * 2) + ch * 2)
         → Progress ch i o num fs out₀ out' (k + 1) q
-    progress-next {q} {out'} l h w = record {
+    progress_next {q} {out'} l h w = record {
       place = let n : num + (k + 1) * i ≡ num + k * i + i = omega arith in rw n h;
       within = omega (arith, due l);
       bytes = let n : (k + 1) * (ch * 2) ≡ k * (ch * 2) + ch * 2 = omega arith in rw (n, add-one k) w;
@@ -150,8 +150,8 @@ module _ (ch i o num : ℕ) (x : Frame) (input : List ℕ) (out₀ : List ℕ) (
     pub turn : length out₀ < 2 ^ 64 → p.frame < length input / (ch * 2) → Turn (ch * 2) k (length fs) (length out)
     turn h l = record { more = due l; fits = rw s.bytes.len r.room; small = rw s.bytes.len h }
 
-    pub advance-ready : (step : Position) → length input < 2 ^ 63 → p.frame < length input / (ch * 2) → At o i step
+    pub advance_ready : (step : Position) → length input < 2 ^ 63 → p.frame < length input / (ch * 2) → At o i step
         → (Parts o p × Parts o step) × ((o ≤ 384000) × (p.frame + step.frame + 1 < 2 ^ 64))
-    advance-ready step h l a =
+    advance_ready step h l a =
         let b : step.frame ≤ i = subst (λ (g : ℕ). g ≤ i) (frame_is o i step a) (div-le_self i o) in
         ((s.place.parts, a.parts), (r.out_r.1, omega (arith, l, h, div-le_self (length input) (ch * 2), r.in_r.1, b)))

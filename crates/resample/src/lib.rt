@@ -1,5 +1,6 @@
 // The block function of `LinearResampler`: linear interpolation between sample rates with an exact rational phase (resample.rs).
 #![tactic(auto)]
+
 ghost use Rattle.std.specs.Prelude.{◌≡◌, ◌+◌, ◌-◌, ◌*◌, ◌/◌, ◌≤◌, ◌<◌, ◌^◌, [], ◌∷◌, length};
 ghost use Rattle.pcm.specs.Samples.{sample_at};
 ghost use Rattle.pcm.specs.Frames.{frames_of};

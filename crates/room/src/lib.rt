@@ -1,6 +1,7 @@
 // The room known beforehand (document 02, Q-5): what a block or a finish will bring, and the smallest halves that hold it. No sound is touched,
 // and no room is lent.
 #![tactic(auto)]
+
 ghost use Rattle.std.specs.Prelude.{◌≡◌, true, ◌≤◌, ◌<◌};
 ghost use Rattle.pcm.specs.declared.Error.TheVariants.{InvalidFormat};
 ghost use Rattle.pcm.specs.declared.Verdict.TheVariants.{Accepted};

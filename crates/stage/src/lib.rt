@@ -1,5 +1,6 @@
 // One stage of a chain: its kind, the sound memory beside it, and what it asks of a block.
 #![tactic(auto)]
+
 ghost use Rattle.std.specs.Prelude.{◌≡◌, true, false, ◌&&◌, ◌*◌, ◌≤◌, eqb, leb, ltb, length};
 ghost use Rattle.pcm.specs.Samples.{Samples};
 ghost use Rattle.stage.specs.Rooms.{rates_suit, stage_suits, frames_out, frames_wanted, Bounded};

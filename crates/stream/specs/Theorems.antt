@@ -26,7 +26,7 @@ use Rattle.recipe.specs.Theorems.{no_notes}
 use Rattle.writing.specs.WritingBack.{recipe_of}
 use Rattle.pipeline.specs.WritingBack.{write_verdict, write_outcome, write_call, stages_of}
 use Rattle.pipeline.specs.laws.RoundTrip.{recipe_of_kinds}
-use Rattle.pipeline.specs.Theorems.{recipe-kept}
+use Rattle.pipeline.specs.Theorems.{recipe_kept}
 use Rattle.answers.specs.declared.Scratch.TheVariants as scratch
 use Rattle.block.specs.BlockCall.{legal, block_verdict, scratch_bytes}
 use Rattle.block.specs.laws.Bounds.{legal_parts}
@@ -39,7 +39,7 @@ use Rattle.finish.specs.Theorems.{nothing_due}
 use Rattle.room.specs.Beforehand.{BlockBeforehand, FinishBeforehand}
 use Rattle.room.specs.Theorems.{block_beforehand, finish_beforehand}
 use Rattle.stream.specs.laws.Sounding.{sounding}
-use Rattle.stream.specs.laws.AfterCalls.{state-plain, legal-since, stands_within, after_all}
+use Rattle.stream.specs.laws.AfterCalls.{state_plain, legal_since, stands_within, after_all}
 use Rattle.stream.specs.laws.Afterwards.{kinds_of_state}
 use Rattle.stream.specs.Counters.{held_count, accepted_blocks, nothing_from}
 use Rattle.stream.specs.laws.Counters.{nothing_calls, counted_calls, open_counters}
@@ -82,14 +82,14 @@ module _ (f : PcmFormat) (recipe : List ℕ) (h : (open_call f recipe).verdict �
   next_call = stands_within o (opened_chain f recipe h) (stream_of o calls) (run_of o calls) (after_all o (opened_chain f recipe h) calls lent)
 
   kinds_kept : kinds_in c ≡ kinds_in o
-  kinds_kept = ap kinds_of (state-plain o (opened_chain f recipe h) next_call) ∙ kinds_of_state (kinds_in o) (fed (stream_of o calls))
+  kinds_kept = ap kinds_of (state_plain o (opened_chain f recipe h) next_call) ∙ kinds_of_state (kinds_in o) (fed (stream_of o calls))
 
   few : c.count ≤ 8
   few = omega (arith, whole.count, (legal_parts o (opened_chain f recipe h).lawful).few)
 
   -- and stays one, whatever the calls
   pub still_legal : legal c ≡ true
-  still_legal = legal-since o (opened_chain f recipe h) next_call
+  still_legal = legal_since o (opened_chain f recipe h) next_call
 
   as_answered : open_call f recipe ≡ record { verdict = Accepted; chain = o }
   as_answered = ap (λ v. let r : Opened = record { verdict = v; chain = o } in r) h
@@ -98,7 +98,7 @@ module _ (f : PcmFormat) (recipe : List ℕ) (h : (open_call f recipe).verdict �
   pub writes_back : Bytes recipe → (out : List ℕ) → write_call c out ≡ write_outcome (room_verdict (length (without_notes recipe)) (length out)) (without_notes recipe) out
   unfolding write_call write_verdict
   writes_back b out =
-      let kept : recipe_of (stages_of c) ≡ without_notes recipe = recipe_of_kinds (stages_of c) (stages_of o) kinds_kept ∙ recipe-kept f recipe o as_answered b in
+      let kept : recipe_of (stages_of c) ≡ without_notes recipe = recipe_of_kinds (stages_of c) (stages_of o) kinds_kept ∙ recipe_kept f recipe o as_answered b in
       rw (le-leb c.count 8 few, kept)
 
   -- and to those very bytes where they hold none

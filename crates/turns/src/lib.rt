@@ -1,6 +1,7 @@
 // One stage's turn in a block: stage i + 1 reads the block or the n bytes that the stage before wrote, and writes to half a where i is
 // even, else to b.
 #![tactic(auto)]
+
 ghost use Rattle.std.specs.Prelude.{◌≡◌, ◌≤◌, length};
 ghost use Rattle.filters.specs.Filters.{FilterBlock};
 ghost use Rattle.turns.specs.Turns.{halves, even_source, TurnAsks, TurnDoes, GainAsks, GainDoes, StereoAsks, StereoDoes, MonoAsks, MonoDoes, ResampleAsks, ResampleDoes, DcDoes, BiquadDoes, Takes, Makes};

@@ -61,21 +61,21 @@ module _ (w : List ℕ) (i k : ℕ) (xs : List ℕ) (past : 7 ≤ k) (within : k
 
   -- the chain has another stage there, and is as it was elsewhere
   module _ (s : Stage) (here : stage_at put i ≡ s) where
-    stages-put : (n j d : ℕ) → i ≡ j + d → stages_from put j n ≡ set (stages_from w j n) d s
-    stages-put zero j d e = refl
-    stages-put (suc n) j zero e =
+    stages_put : (n j d : ℕ) → i ≡ j + d → stages_from put j n ≡ set (stages_from w j n) d s
+    stages_put zero j d e = refl
+    stages_put (suc n) j zero e =
         let q : i ≡ j = omega arith in
         ap₂ (λ (x : Stage) (l : List Stage). x ∷ l) (ap (stage_at put) (sym q) ∙ here)
         (same_stages put w (suc j) n (λ t l. other_place w i xs t k within (λ (z : i ≡ t). omega arith)))
-    stages-put (suc n) j (suc d) e =
+    stages_put (suc n) j (suc d) e =
         ap₂ (λ (x : Stage) (l : List Stage). x ∷ l) (other_place w i xs j k within (λ (z : i ≡ j). omega arith))
-        (stages-put n (suc j) d (omega arith))
+        (stages_put n (suc j) d (omega arith))
 
-    pub chain-put : chain_at put ≡ with_stages (chain_at w) (set (chain_at w).stages i s)
+    pub chain_put : chain_at put ≡ with_stages (chain_at w) (set (chain_at w).stages i s)
     unfolding chain_at with_stages
-    chain-put =
+    chain_put =
         let e : i ≡ 0 + i = omega arith in
-        rw (stages-put 8 0 i e, head_put 0 (omega arith), head_put 1 (omega arith), head_put 2 (omega arith), head_put 3 (omega arith), head_put 4 (omega arith), head_put 5 (omega arith), head_put 6 (omega arith))
+        rw (stages_put 8 0 i e, head_put 0 (omega arith), head_put 1 (omega arith), head_put 2 (omega arith), head_put 3 (omega arith), head_put 4 (omega arith), head_put 5 (omega arith), head_put 6 (omega arith))
 
 -- ---- and the counters
 module _ (w : List ℕ) (blocks empty : ℕ) (fits : 8 ≤ length w) where

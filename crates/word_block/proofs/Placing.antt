@@ -22,18 +22,18 @@ use Rattle.block.specs.BlockCall.{accepted, shorter, block_clipped}
 use Rattle.block.specs.Turns.{Accepts}
 use Rattle.block.specs.laws.Turns.{Ended}
 use Rattle.stage.specs.laws.Places.{no_stage}
-use Rattle.block.specs.laws.Stages.{with_stages, Plays, turn-asks, sum_fits, stored, at_end, clips_end, plays-first, copy_room_lem, length-first}
+use Rattle.block.specs.laws.Stages.{with_stages, Plays, turn_asks, sum_fits, stored, at_end, clips_end, plays_first, copy_room_lem, length_first}
 use Rattle.block.specs.laws.Reaching.{shorter_a}
-use Rattle.block.specs.laws.Concluding.{concludes-accepted}
+use Rattle.block.specs.laws.Concluding.{concludes_accepted}
 use Rattle.stage_words.specs.Layout.{held_at, held_words, word}
 use Rattle.stage_words.specs.Storable.{HeldBy, SmallKind}
-use Rattle.stage_words.specs.laws.HeldParts.{held_past, held_within, held-written}
+use Rattle.stage_words.specs.laws.HeldParts.{held_past, held_within, held_written}
 use Rattle.stage_words.specs.laws.Small.{small_next}
 use Rattle.chain_words.specs.Layout.{counter_words, stage_at, format_of, counter_at, chain_at, stands, chain_of_words}
 use Rattle.chain_words.specs.laws.Chains.{stands_long, stands_chain}
 use Rattle.word_block.specs.Words.{SettingsStay}
 use Rattle.word_block.specs.laws.Heads.{eight}
-use Rattle.word_block.proofs.Moved.{Moved, stage_of_eight, chain-put, settings_stay, chain_counted, stays_stand}
+use Rattle.word_block.proofs.Moved.{Moved, stage_of_eight, chain_put, settings_stay, chain_counted, stays_stand}
 
 -- stage i + 1 of the words w was read: its kind and its memory
 module _ (w : List ℕ) (i : ℕ) (k : StageKind) (m : SoundMemory) (ek : k ≡ (stage_at w i).kind) (em : m ≡ (stage_at w i).memory) where
@@ -53,11 +53,11 @@ module _ (w : List ℕ) (i : ℕ) (k : StageKind) (m : SoundMemory) (ek : k ≡ 
 
     -- what a turn asks
     pub asks_at : TurnAsks i n block h (Takes f read)
-    asks_at = subst (λ (s : Stage). TurnAsks i n block h (Takes f s)) here (turn-asks (chain_at old) count format block before short (chain_at w) f n i h clipped p more)
+    asks_at = subst (λ (s : Stage). TurnAsks i n block h (Takes f s)) here (turn_asks (chain_at old) count format block before short (chain_at w) f n i h clipped p more)
 
     -- the sum of what was held back fits
-    pub sum-at : {held : ℕ} → held ≡ stage_clipped read (frames_of f.channels (source_at i n block h)) → clipped + held ≤ 38400000000000
-    sum-at {held} q =
+    pub sum_at : {held : ℕ} → held ≡ stage_clipped read (frames_of f.channels (source_at i n block h)) → clipped + held ≤ 38400000000000
+    sum_at {held} q =
         sum_fits (chain_at old) count format block before short (chain_at w) f n i h clipped p more
         (subst (λ (s : Stage). held ≡ stage_clipped s (frames_of f.channels (source_at i n block h))) (sym here) q)
 
@@ -74,20 +74,20 @@ module _ (w : List ℕ) (i : ℕ) (k : StageKind) (m : SoundMemory) (ek : k ≡ 
       placed : stage_at (sets w (8 + 18 * i + held_at k) (held_words k memory)) i ≡ record { kind = k; memory = memory }
       placed =
           subst (λ (s : Stage). stage_at (sets w (8 + 18 * i + held_at s.kind) (held_words s.kind memory)) i ≡ record { kind = s.kind; memory = memory }) (sym read_is)
-          (held-written w (8 + 18 * i) (omega (arith, p.few)) memory xs phase_next
+          (held_written w (8 + 18 * i) (omega (arith, p.few)) memory xs phase_next
           (subst (λ (s : Stage). record { kind = s.kind; memory = memory } ≡ stage_next s xs) read_is t.does.serves.keeps)
           (subst (λ (s : Stage). HeldBy s.kind memory) read_is held))
 
-      pub plays-next : (w' : List ℕ) → w' ≡ sets w (8 + 18 * i + held_at k) (held_words k memory) → (j : ℕ) → j ≡ next_stage i count len
+      pub plays_next : (w' : List ℕ) → w' ≡ sets w (8 + 18 * i + held_at k) (held_words k memory) → (j : ℕ) → j ≡ next_stage i count len
           → Plays (chain_at old) count format block before short (chain_at w') g len j h' (clipped + freshly)
-      plays-next w' q j r =
+      plays_next w' q j r =
           stored (chain_at old) count format block before short (chain_at w) f n i h clipped p more memory len freshly g h'
           (subst (λ (s : Stage). TurnDoes i n block h h' (Makes f s memory len freshly)) (sym here) t)
           (subst (λ (s : Stage). g ≡ format_after f s.kind) (sym here) e)
           j r (chain_at w')
           (ap chain_at q
           ∙ subst (λ (s : Stage). chain_at (sets w (8 + 18 * i + held_at k) (held_words k memory)) ≡ with_stages (chain_at w) (set (chain_at w).stages i (record { kind = s.kind; memory = memory }))) (sym here)
-          (chain-put w i (held_at k) (held_words k memory) (held_past k) (held_within k memory) (record { kind = k; memory = memory }) placed))
+          (chain_put w i (held_at k) (held_words k memory) (held_past k) (held_within k memory) (record { kind = k; memory = memory }) placed))
 
 -- ---- before the first stage
 count_at : (w : List ℕ) → (chain_at w).count ≡ word w 0
@@ -122,14 +122,14 @@ module _ (w block a b a₀ : List ℕ) (count : ℕ) (own : PcmFormat) (accepts 
   copied = u ∙ ap (λ (n : ℕ). unstaged n block a) same_count
 
   pub same_long : length a₀ ≡ length a
-  same_long = length-first c block a b accepts (eight w) bytes a₀ (shorter a b) copied refl
+  same_long = length_first c block a b accepts (eight w) bytes a₀ (shorter a b) copied refl
 
   pub plays_begin : (len : ℕ) → len ≡ length block → Plays c count own block (halves a₀ b) (shorter a₀ b) c own len 0 (halves a₀ b) 0
   plays_begin len el =
       subst (λ (n : ℕ). Plays c n own block (halves a₀ b) (shorter a₀ b) c own len 0 (halves a₀ b) 0) (sym same_count)
       (subst (λ (f : PcmFormat). Plays c c.count f block (halves a₀ b) (shorter a₀ b) c f len 0 (halves a₀ b) 0) (sym same_format_lem)
       (subst (λ (n : ℕ). Plays c c.count c.format block (halves a₀ b) (shorter a₀ b) c c.format n 0 (halves a₀ b) 0) (sym el)
-      (plays-first c block a b accepts (eight w) bytes a₀ (shorter a₀ b) copied (ap (λ (n : ℕ). shorter_of n (length b)) same_long))))
+      (plays_first c block a b accepts (eight w) bytes a₀ (shorter a₀ b) copied (ap (λ (n : ℕ). shorter_of n (length b)) same_long))))
 
   -- ---- and past the last: w' are the words then, and `left` those with the counters
   module _ (w' left : List ℕ) (short : ℕ) (f : PcmFormat) (len i : ℕ) (h : Halves) (clipped : ℕ) (p : Plays c count own block (halves a₀ b) short (chain_at w') f len i h clipped) (end : count ≤ i)
@@ -151,11 +151,11 @@ module _ (w block a b a₀ : List ℕ) (count : ℕ) (own : PcmFormat) (accepts 
     pub stays : SettingsStay w left
     stays = subst (SettingsStay w) (sym el) (settings_stay w' _ _ fits w moved)
 
-    pub plays-end : (t : ℕ) (answer : Answer) → answer ≡ output_answer f t (last_half count) len clipped
+    pub plays_end : (t : ℕ) (answer : Answer) → answer ≡ output_answer f t (last_half count) len clipped
         → record { chain = chain_of_words left; answer = answer; a = h.a; b = h.b } ≡ accepted (chain_of_words w) t block (halves a b)
-    plays-end t answer r =
+    plays_end t answer r =
         ap (λ (d : Pipeline). record { chain = d; answer = answer; a = h.a; b = h.b })
         (stands_chain left (stays_stand w left stood stays) ∙ ap chain_at el ∙ chain_counted w' _ _ fits)
-        ∙ concludes-accepted c c.format t block a b accepts (eight w) bytes a₀ copied (chain_at w').stages f len h ended clipped held_back (chain_at w') p.chain _ _ answer
+        ∙ concludes_accepted c c.format t block a b accepts (eight w) bytes a₀ copied (chain_at w').stages f len h ended clipped held_back (chain_at w') p.chain _ _ answer
         (ap counted_up (sym (counters_at w').0)) (ap (counted_if len) (sym (counters_at w').1)) (r ∙ ap (λ (n : ℕ). output_answer f t (last_half n) len clipped) same_count)
         ∙ ap (λ (d : Pipeline). accepted d t block (halves a b)) (sym (stands_chain w stood))

@@ -1,6 +1,7 @@
 // The block call on a chain that is kept as words: each stage is read as the walk comes to it, and only what it remembers is written
 // back.
 #![tactic(auto)]
+
 ghost use Rattle.std.specs.Prelude.{◌≡◌, true, ◌≤◌, length, take};
 ghost use Rattle.std.proofs.lemmas.List.Edits.{sets};
 ghost use Rattle.answers.specs.Answers.{counted_up, counted_if};

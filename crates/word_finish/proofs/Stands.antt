@@ -54,9 +54,9 @@ module _ (c : Pipeline) (places : length c.stages ≡ 8) (few : c.count ≤ 8) w
       }
 
   module _ (small : All Small c.stages) where
-    pub reset-alters : Altered c (reset_call c)
+    pub reset_alters : Altered c (reset_call c)
     unfolding reset_call
-    reset-alters = rw (le-leb c.count 8 few)
+    reset_alters = rw (le-leb c.count 8 few)
         (altered (map stage_clear (stages_of c)) _ refl refl refl (length-map (stages_of c) stage_clear) (kinds_clear (stages_of c))
         (all_map Small Small stage_clear small_clear (stages_of c) (all_take Small c.count c.stages small)))
 
@@ -101,4 +101,4 @@ unfolding reset_call
 reset_few w h = rw (le-leb (chain_of_words w).count 8 (count_of_words w h)) (count_of_words w h)
 
 pub reset_stands : (w : List ℕ) → All Small (chain_of_words w).stages → stands w ≡ true → All HeldMemory (stages_of (reset_call (chain_of_words w))) → chain_of_words (sound_words w (reset_call (chain_of_words w))) ≡ reset_call (chain_of_words w)
-reset_stands w small h held = sound_stands w (reset_call (chain_of_words w)) h (reset-alters (chain_of_words w) (places_of_words w) (count_of_words w h) small) held
+reset_stands w small h held = sound_stands w (reset_call (chain_of_words w)) h (reset_alters (chain_of_words w) (places_of_words w) (count_of_words w h) small) held

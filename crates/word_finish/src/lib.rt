@@ -1,5 +1,6 @@
 // Reset and finish of a chain that is kept as words: the whole chain is read, and what it remembers is written back.
 #![tactic(auto)]
+
 ghost use Rattle.std.specs.Prelude.{◌≡◌};
 ghost use Rattle.pipeline.specs.Reset.{reset_call};
 ghost use Rattle.turns.specs.Turns.{halves};

@@ -17,7 +17,7 @@ use Rattle.block.specs.laws.Asking.{Head, head_parts}
 use Rattle.room.specs.declared.Room.{Room}
 use Rattle.room.specs.Asked.{asked_bytes}
 use Rattle.room.specs.Room.{found, finish_found, room_answer, block_room, finish_room}
-use Rattle.room.specs.laws.Asked.{block-room-is, finish_room_is}
+use Rattle.room.specs.laws.Asked.{block_room_is, finish_room_is}
 use Rattle.stage_words.specs.Layout.{word}
 use Rattle.chain_words.specs.Layout.{format_of, chain_at, chain_of_words}
 use Rattle.chain_words.specs.laws.Chains.{stands_chain}
@@ -45,15 +45,15 @@ module _ (w : List ℕ) (h : legal_head w ≡ true) where
     same : own ≡ (chain_of_words w).format
     same = same_format_lem w h (word w 0) own refl ef ∙ ap (λ (c : Pipeline). c.format) (sym stood)
 
-    pub own-parts : Head own (chain_of_words w).count
-    own-parts = head_parts own (chain_of_words w).count (ap (λ (f : PcmFormat). head_legal f (chain_of_words w).count) same ∙ head_of)
+    pub own_parts : Head own (chain_of_words w).count
+    own_parts = head_parts own (chain_of_words w).count (ap (λ (f : PcmFormat). head_legal f (chain_of_words w).count) same ∙ head_of)
 
     pub block_at : (n size : ℕ) (walk : Walk) (r : Room) → size ≡ asked_bytes own n → walk ≡ found Block (chain_of_words w) size → r ≡ room_answer (sized_from own size walk) walk
         → r ≡ block_room (chain_of_words w) n
     block_at n size walk r s e k =
         k ∙ ap (λ (x : Walk). room_answer (sized_from own size x) x) e
         ∙ ap₂ (λ (f : PcmFormat) (m : ℕ). room_answer (sized_from f m (found Block (chain_of_words w) m)) (found Block (chain_of_words w) m)) same (s ∙ ap (λ (f : PcmFormat). asked_bytes f n) same)
-        ∙ block-room-is (chain_of_words w) head_of n (head_parts (chain_of_words w).format (chain_of_words w).count head_of).channels.0
+        ∙ block_room_is (chain_of_words w) head_of n (head_parts (chain_of_words w).format (chain_of_words w).count head_of).channels.0
 
   pub finish_at : (walk : Walk) (r : Room) → walk ≡ finish_found (chain_of_words w) → r ≡ room_answer (ask walk.legal InvalidFormat Accepted) walk → r ≡ finish_room (chain_of_words w)
   finish_at walk r e k = k ∙ ap (λ (x : Walk). room_answer (ask x.legal InvalidFormat Accepted) x) e ∙ finish_room_is (chain_of_words w) head_of

@@ -1,5 +1,6 @@
 // The room known beforehand, of a chain that is kept as words: each stage is read as the walk comes to it.
 #![tactic(auto)]
+
 ghost use Rattle.std.specs.Prelude.{◌≡◌, true};
 ghost use Rattle.chain_words.specs.Layout.{chain_of_words};
 ghost use Rattle.word_block.specs.Words.{legal_head};

@@ -1,5 +1,6 @@
 // The records of a chain's stages, and their bytes.
 #![tactic(auto)]
+
 ghost use Rattle.std.specs.Prelude.{◌≡◌, ◌≤◌, length, take};
 ghost use Rattle.pcm.specs.Frames.{written};
 ghost use Rattle.writing.specs.WritingBack.{record_of_stage, recipe_of};

@@ -7,7 +7,7 @@ use native.Mathlib.Omega.{arith}
 use mir.Syntax.{w16}
 use Rattle.pcm.specs.laws.Integers.{answered}
 use Rattle.counting.specs.Counting.{one}
-use Rattle.filters.specs.laws.Filters.{TwoChannels, taps_at, Filtering, filtering_start, filtering-mono, filtering_end}
+use Rattle.filters.specs.laws.Filters.{TwoChannels, taps_at, Filtering, filtering_start, filtering_mono, filtering_end}
 use Rattle.biquad.specs.Recurrence.{biquad_tick}
 use Rattle.biquad.proofs.Ticks.{ticked}
 use Rattle.biquad.proofs.mono.Statement.{statement}
@@ -32,7 +32,7 @@ loop-again c =
     let at-get = at-output.before.before in
     let at-loop = at-get.before.before in
     let s = at-loop.before.before.before.before.before.before.before in
-    filtering-mono s.requires.room (search rules) s.requires.whole at-loop.loop-i.invariant
+    filtering_mono s.requires.room (search rules) s.requires.whole at-loop.loop-i.invariant
     (ticked _ _ at-output.output-y.ensures (answered w16 at-get.get_i16-x.type_inv at-get.get_i16-x.ensures))
     at-put.put_i16.ensures
     (answered w16 at-put.rounded16.type_inv at-put.rounded16.ensures)

@@ -7,7 +7,7 @@ use native.Mathlib.Omega.{arith}
 use mir.Syntax.{w16}
 use Rattle.pcm.specs.laws.Integers.{answered}
 use Rattle.counting.specs.Counting.{one}
-use Rattle.filters.specs.laws.Filters.{TwoChannels, Filtering, filtering_start, filtering-stereo, filtering_end}
+use Rattle.filters.specs.laws.Filters.{TwoChannels, Filtering, filtering_start, filtering_stereo, filtering_end}
 use Rattle.biquad.specs.Recurrence.{biquad_tick}
 use Rattle.biquad.proofs.Ticks.{ticked}
 use Rattle.biquad.proofs.stereo.Statement.{statement}
@@ -43,7 +43,7 @@ loop-again c =
     let at-get = at-get2.before.before in
     let at-loop = at-get.before.before in
     let s = start c in
-    filtering-stereo s.requires.room (search rules) s.requires.whole at-loop.loop-i.invariant
+    filtering_stereo s.requires.room (search rules) s.requires.whole at-loop.loop-i.invariant
     (ticked _ _ at-output.output-ly.ensures (answered w16 at-get.get_i16-lx.type_inv at-get.get_i16-lx.ensures))
     (ticked _ _ at-output2.output-ry.ensures (answered w16 at-get2.get_i16-rx.type_inv at-get2.get_i16-rx.ensures))
     at-put.put_i16.ensures

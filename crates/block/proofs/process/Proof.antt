@@ -18,7 +18,7 @@ use Rattle.questions.specs.Walk.{head_legal}
 use Rattle.pcm.specs.laws.Lists.{unmapped}
 use Rattle.block.specs.laws.Asking.{Asks, head_parts, asks_first, asks_fits, asks_next, asks_end, walk_verdict}
 use Rattle.block.specs.laws.Reaching.{shorter_a}
-use Rattle.block.specs.laws.Stages.{next_less, with_stages, Plays, turn-asks, sum_fits, stored, stayed, at_end, clips_end, plays-first, copy_room_lem, length-first}
+use Rattle.block.specs.laws.Stages.{next_less, with_stages, Plays, turn_asks, sum_fits, stored, stayed, at_end, clips_end, plays_first, copy_room_lem, length_first}
 use Rattle.block.specs.laws.Concluding.{head_refused, refused_is, concludes}
 use Rattle.block.proofs.Telling.{with_told}
 use Rattle.block.proofs.process.Lts.{then-remembers, else-remembers}
@@ -108,9 +108,9 @@ process_spec = tie.close (tie.spec
     (λ c.
     let e = c.before.before.before.before in
     let a = (s (b e)).args in
-    plays-first a.chain a.block.now a.a.now a.b.now (takes e) (eight (b e)) (bytes (b e)) _ _ c.copy_unstaged.ensures (b e).shorter_of-shorter.ensures)
+    plays_first a.chain a.block.now a.a.now a.b.now (takes e) (eight (b e)) (bytes (b e)) _ _ c.copy_unstaged.ensures (b e).shorter_of-shorter.ensures)
     (λ c. search rules) (λ c. search rules)
-    (λ c κs. turn-asks _ _ _ _ _ _ _ _ _ _ _ _ c.loop-i-2.invariant c.loop-i-2-test.true)
+    (λ c κs. turn_asks _ _ _ _ _ _ _ _ _ _ _ _ c.loop-i-2.invariant c.loop-i-2-test.true)
     (λ c κs. search rules) (λ c. search rules) (λ c. search rules)
     (λ c.
     let t = c.before.before.before.before.before.before.before in
@@ -126,15 +126,15 @@ process_spec = tie.close (tie.spec
     let t = j.before.before.before.before.before.before in
     let l = t.before.before.before.before.before in
     elim c.if-remembers.branch [
-      then-remembers w ↦ stored _ _ _ _ _ _ _ _ _ _ _ _ c.loop-i-2.invariant c.loop-i-2-test.true _ _ _ _ _ c.turn-t.ensures c.format_after-reaching.ensures _ c.next_stage-i.ensures _ w.chain-is
-    | else-remembers w ↦ stayed _ _ _ _ _ _ _ _ _ _ _ _ c.loop-i-2.invariant c.loop-i-2-test.true _ _ _ _ _ c.turn-t.ensures c.format_after-reaching.ensures _ c.next_stage-i.ensures _ w.chain-is (sym c.remembers.ensures ∙ w.if-remembers.false)
+      | then-remembers w ↦ stored _ _ _ _ _ _ _ _ _ _ _ _ c.loop-i-2.invariant c.loop-i-2-test.true _ _ _ _ _ c.turn-t.ensures c.format_after-reaching.ensures _ c.next_stage-i.ensures _ w.chain-is
+      | else-remembers w ↦ stayed _ _ _ _ _ _ _ _ _ _ _ _ c.loop-i-2.invariant c.loop-i-2-test.true _ _ _ _ _ c.turn-t.ensures c.format_after-reaching.ensures _ c.next_stage-i.ensures _ w.chain-is (sym c.remembers.ensures ∙ w.if-remembers.false)
     ])
     (λ c κs. search rules) (λ c κs. search rules) (λ c κs. search rules)
     (λ c.
     let l = c.before.before.before.before in
     let e = l.before.before.before.before.before in
     let a = (s (b e)).args in
-    c.loop-i-2.invariant.same_a ∙ length-first a.chain a.block.now a.a.now a.b.now (takes e) (eight (b e)) (bytes (b e)) _ _ c.copy_unstaged.ensures (b e).shorter_of-shorter.ensures)
+    c.loop-i-2.invariant.same_a ∙ length_first a.chain a.block.now a.a.now a.b.now (takes e) (eight (b e)) (bytes (b e)) _ _ c.copy_unstaged.ensures (b e).shorter_of-shorter.ensures)
     (λ c. c.loop-i-2.invariant.same_b)
     (λ c.
     let l = c.before.before.before.before in

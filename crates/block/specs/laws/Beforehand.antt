@@ -118,15 +118,15 @@ pub begun_fits : (f : PcmFormat) (count size shorter : ℕ) → Fits shorter (be
 unfolding begun
 begun_fits f count size shorter = go (copy_room count (block_frames f size * (f.channels * 2)))
   where
-    zero-larger : (n : ℕ) → larger 0 n ≤ n
-    zero-larger n = larger_least 0 n n (omega arith) (le_refl n)
+    zero_larger : (n : ℕ) → larger 0 n ≤ n
+    zero_larger n = larger_least 0 n n (omega arith) (le_refl n)
 
     go : (room : ℕ) → Fits shorter (record { legal = true; format = f; frames = block_frames f size; largest = room; short = first_short shorter 0 room })
     go room = record {
-      enough = λ h. enough_next shorter 0 0 room (λ k. refl) (λ k. omega arith) (le_trans (zero-larger room) h);
+      enough = λ h. enough_next shorter 0 0 room (λ k. refl) (λ k. omega arith) (le_trans (zero_larger room) h);
       needed = λ e. le_trans (larger_right 0 room) (needed_next shorter 0 0 room (λ k. refl) (λ k. omega arith) e);
       above = above_next shorter 0 0 room (λ k. refl) (λ k. omega arith) (λ z. absurd (z refl));
-      most = le_trans (most_next shorter 0 0 room (λ k. refl) (λ k. omega arith) (omega arith)) (zero-larger room);
+      most = le_trans (most_next shorter 0 0 room (λ k. refl) (λ k. omega arith) (omega arith)) (zero_larger room);
     }
 
 -- ---- the largest room is the same whatever the halves

@@ -38,28 +38,28 @@ module _ (count total first left : ℕ) (f : PcmFormat) (n i clipped : ℕ) (c :
 
   module _ (more : i < count) (few : count ≤ 8) (s : Stage) (xs : List Frame) (size : length xs ≡ n) (good : FramesOf f.channels xs) (two : f.channels ≤ 2) where
     -- a frame has a sample for each channel
-    samples-of : length (flat xs) ≡ n * f.channels
+    samples_of : length (flat xs) ≡ n * f.channels
     unfolding bytes_of
-    samples-of = omega (arith, length_encode (flat xs), length_bytes f.channels xs good, ap (λ (k : ℕ). k * (f.channels * 2)) size)
+    samples_of = omega (arith, length_encode (flat xs), length_bytes f.channels xs good, ap (λ (k : ℕ). k * (f.channels * 2)) size)
 
-    held-few : stage_clipped s xs ≤ 4800000000000
-    held-few =
+    held_few : stage_clipped s xs ≤ 4800000000000
+    held_few =
         let k : n ≤ 2400000000000 = few_frames first c.first_rate.0 c.first_rate.1 {i = i} (omega arith) c.rate (c.frames more) in
-        omega (arith, stage_clipped_le s xs, samples-of, mul-le-mul k two)
+        omega (arith, stage_clipped_le s xs, samples_of, mul-le-mul k two)
 
     -- the sum fits
-    pub clips-fit : {held : ℕ} → held ≡ stage_clipped s xs → clipped + held ≤ 38400000000000
-    clips-fit e = omega (arith, held-few, c.small)
+    pub clips_fit : {held : ℕ} → held ≡ stage_clipped s xs → clipped + held ≤ 38400000000000
+    clips_fit e = omega (arith, held_few, c.small)
 
     -- the stage has had its turn
-    pub clips-next : {held later m : ℕ} {g : PcmFormat} → held ≡ stage_clipped s xs → left ≡ stage_clipped s xs + later
+    pub clips_next : {held later m : ℕ} {g : PcmFormat} → held ≡ stage_clipped s xs → left ≡ stage_clipped s xs + later
         → stage_suits f s.kind s.memory ≡ true → m ≤ frames_wanted s.kind n → g ≡ format_after f s.kind
         → Clips count total first later g m (i + 1) (clipped + held)
-    clips-next {held} {later} {m} {g} e q suit k w =
+    clips_next {held} {later} {m} {g} e q suit k w =
         let b = next_bound first c.first_rate.0 c.first_rate.1 f s.kind s.memory i n m suit (c.frames more) c.rate k in
         record {
           is = omega (arith, c.is, e, q);
-          small = omega (arith, held-few, c.small, e);
+          small = omega (arith, held_few, c.small, e);
           first_rate = c.first_rate;
           rate = subst (λ (x : PcmFormat). x.rate ≤ 384000) (sym w) b.1;
           frames = λ later. subst (λ (x : PcmFormat). m * first ≤ (8192 + 768000 * (i + 1)) * x.rate) (sym w) b.0;

@@ -76,11 +76,11 @@ module _ (c : Pipeline) (format : PcmFormat) (t : ℕ) (block a b : List ℕ) wh
         ∙ ap (λ (g : Halves). record { chain = counted_chain c next size; answer = output_answer leaving t (last_half c.count) size (block_clipped c block); a = g.a; b = g.b }) (e.halves_are ∙ halves_end c block a b w eight bytes a₀ u)
         ∙ accepted_is
 
-    pub concludes-accepted : (chain : Pipeline) → chain ≡ with_stages c s → (blocks empties : ℕ) (answer : Answer) → blocks ≡ counted_up chain.blocks → empties ≡ counted_if len chain.empty_blocks
+    pub concludes_accepted : (chain : Pipeline) → chain ≡ with_stages c s → (blocks empties : ℕ) (answer : Answer) → blocks ≡ counted_up chain.blocks → empties ≡ counted_if len chain.empty_blocks
         → answer ≡ output_answer f t (last_half c.count) len clipped
         → record { chain = record { stages = chain.stages; count = chain.count; format = chain.format; blocks = blocks; empty_blocks = empties }; answer = answer; a = h.a; b = h.b } ≡ accepted c t block (halves a b)
     unfolding with_stages
-    concludes-accepted chain m blocks empties answer p q r =
+    concludes_accepted chain m blocks empties answer p q r =
         ap₂ (λ (x y : ℕ). record { chain = record { stages = chain.stages; count = chain.count; format = chain.format; blocks = x; empty_blocks = y }; answer = answer; a = h.a; b = h.b }) p q
         ∙ ap₂ (λ (d : Pipeline) (y : Answer). record { chain = record { stages = d.stages; count = d.count; format = d.format; blocks = counted_up d.blocks; empty_blocks = counted_if len d.empty_blocks }; answer = y; a = h.a; b = h.b }) m r
         ∙ played
@@ -88,4 +88,4 @@ module _ (c : Pipeline) (format : PcmFormat) (t : ℕ) (block a b : List ℕ) wh
     pub concludes : (chain : Pipeline) → chain ≡ with_stages c s → (blocks empties : ℕ) (answer : Answer) → blocks ≡ counted_up chain.blocks → empties ≡ counted_if len chain.empty_blocks
         → answer ≡ output_answer f t (last_half c.count) len clipped → block_verdict c format (length block) (shorter a b) ≡ Accepted
         → record { chain = record { stages = chain.stages; count = chain.count; format = chain.format; blocks = blocks; empty_blocks = empties }; answer = answer; a = h.a; b = h.b } ≡ block_call c format t block a b
-    concludes chain m blocks empties answer p q r v = concludes-accepted chain m blocks empties answer p q r ∙ accepted_call v
+    concludes chain m blocks empties answer p q r v = concludes_accepted chain m blocks empties answer p q r ∙ accepted_call v

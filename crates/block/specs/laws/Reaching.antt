@@ -24,7 +24,7 @@ use Rattle.pipeline.specs.Reset.{format_leaving}
 use Rattle.turns.specs.Turns.{Halves, halves, source_at, target_at, TurnAsks, TurnDoes, Takes, Makes}
 use Rattle.block.specs.BlockCall.{put, suited, rooms_verdict, passed, shorter, halves_verdict}
 use Rattle.pipeline.specs.WritingBack.{stages_of}
-use Rattle.block.specs.laws.Steps.{stage_at_lem, stages_end, drop_zero, room-first, room-rest}
+use Rattle.block.specs.laws.Steps.{stage_at_lem, stages_end, drop_zero, room_first, room_rest}
 use Rattle.block.specs.laws.Bounds.{suited_first, suited_rest, legal_parts}
 use Rattle.block.specs.Bounds.{Legal}
 use Rattle.block.specs.laws.Turns.{Turns, Ended, Reached}
@@ -130,20 +130,20 @@ whole_frames_lem n k h = omega (arith, div-add-mod' n k)
 
 zero_factor : (a b : ℕ) → 0 < b → a * b ≡ 0 → a ≡ 0
 zero_factor zero b h e = refl
-zero_factor (suc a) b h e = absurd (let l : b ≤ suc a * b = suc-mul-le a b in let c : ⊥ = omega arith in c)
+zero_factor (suc a) b h e = absurd (let l : b ≤ suc a * b = suc_mul_le a b in let c : ⊥ = omega arith in c)
   where
-    suc-mul-le : (a b : ℕ) → b ≤ suc a * b
-    suc-mul-le a b = omega arith
+    suc_mul_le : (a b : ℕ) → b ≤ suc a * b
+    suc_mul_le a b = omega arith
 
 -- a list from i on, up to count and past it
 drop_seam : {A : Type 0} (l : List A) (count i : ℕ) → i ≤ count → drop i (take count l) ++ drop count l ≡ drop i l
-drop_seam l count i h = sym (drop-split l count i h)
+drop_seam l count i h = sym (drop_split l count i h)
   where
-    drop-split : {A : Type 0} (l : List A) (count i : ℕ) → i ≤ count → drop i l ≡ drop i (take count l) ++ drop count l
-    drop-split l count zero h = drop_zero l ∙ sym (take-append-drop count l) ∙ ap (λ t. t ++ drop count l) (sym (drop_zero (take count l)))
-    drop-split [] (suc count) (suc i) h = refl
-    drop-split (x ∷ l) (suc count) (suc i) h = drop-split l count i (omega arith)
-    drop-split l zero (suc i) h = absurd (let c : ⊥ = omega arith in c)
+    drop_split : {A : Type 0} (l : List A) (count i : ℕ) → i ≤ count → drop i l ≡ drop i (take count l) ++ drop count l
+    drop_split l count zero h = drop_zero l ∙ sym (take-append-drop count l) ∙ ap (λ t. t ++ drop count l) (sym (drop_zero (take count l)))
+    drop_split [] (suc count) (suc i) h = refl
+    drop_split (x ∷ l) (suc count) (suc i) h = drop_split l count i (omega arith)
+    drop_split l zero (suc i) h = absurd (let c : ⊥ = omega arith in c)
 
 -- ---- a turn, by its half
 pub turns_of : (f : PcmFormat) (s : Stage) (memory : SoundMemory) (i n len clipped : ℕ) (block : List ℕ) (h h' : Halves)
@@ -190,7 +190,7 @@ module _ (old : List Stage) (count : ℕ) (format : PcmFormat) (block : List ℕ
   room_all = sym (ap (λ (l : List Stage). rooms_verdict f l (length r.xs) short) ahead) ∙ r.room
 
   room_here : room_wanted f s.kind (length r.xs) ≤ short
-  room_here = room-first f s rest (length r.xs) short not_none room_all
+  room_here = room_first f s rest (length r.xs) short not_none room_all
 
   frames_here : length (source_at i n block h) / (f.channels * 2) ≡ length r.xs
   frames_here = ap (λ (k : ℕ). k / (f.channels * 2)) r.long ∙ mul-div_cancel (length r.xs) (let p : 0 < f.channels * 2 = omega (arith, r.channels.0) in p)
@@ -232,95 +232,95 @@ module _ (old : List Stage) (count : ℕ) (format : PcmFormat) (block : List ℕ
     halves_are : h' ≡ put i (bytes_of out) h
     halves_are = t.gives ∙ ap (λ (xs : List Frame). put i (bytes_of (stage_out s xs)) h) r.source
 
-    good-out : FramesOf g.channels out
-    good-out = subst (λ (k : PcmFormat). FramesOf k.channels out) (sym e) (subst (λ (xs : List Frame). FramesOf f.channels xs → FramesOf (format_after f s.kind).channels (stage_out s xs)) r.source t.frames r.good)
+    good_out : FramesOf g.channels out
+    good_out = subst (λ (k : PcmFormat). FramesOf k.channels out) (sym e) (subst (λ (xs : List Frame). FramesOf f.channels xs → FramesOf (format_after f s.kind).channels (stage_out s xs)) r.source t.frames r.good)
 
-    pub count-out : length out ≡ frames_out s.kind s.memory (length r.xs)
-    count-out = stage_count s r.xs
+    pub count_out : length out ≡ frames_out s.kind s.memory (length r.xs)
+    count_out = stage_count s r.xs
 
-    long-out : length (bytes_of out) ≡ length out * (g.channels * 2)
-    long-out = length_bytes g.channels out good-out
+    long_out : length (bytes_of out) ≡ length out * (g.channels * 2)
+    long_out = length_bytes g.channels out good_out
 
-    few-channels : (0 < g.channels) × (g.channels ≤ 2)
-    few-channels = subst (λ (k : PcmFormat). (0 < k.channels) × (k.channels ≤ 2)) (sym e) (channels_after f s.kind r.channels)
+    few_channels : (0 < g.channels) × (g.channels ≤ 2)
+    few_channels = subst (λ (k : PcmFormat). (0 < k.channels) × (k.channels ≤ 2)) (sym e) (channels_after f s.kind r.channels)
 
-    some-channels : 0 < g.channels
-    some-channels = few-channels.0
+    some_channels : 0 < g.channels
+    some_channels = few_channels.0
 
-    within-out : m ≤ short
-    within-out =
+    within_out : m ≤ short
+    within_out =
         let a : length out * (g.channels * 2) ≤ room_wanted f s.kind (length r.xs) =
         subst (λ (k : PcmFormat). length out * (k.channels * 2) ≤ room_wanted f s.kind (length r.xs)) (sym e)
-        (subst (λ (k : ℕ). k * ((format_after f s.kind).channels * 2) ≤ room_wanted f s.kind (length r.xs)) (sym count-out) held) in
-        omega (arith, size_is, long-out, room_here)
+        (subst (λ (k : ℕ). k * ((format_after f s.kind).channels * 2) ≤ room_wanted f s.kind (length r.xs)) (sym count_out) held) in
+        omega (arith, size_is, long_out, room_here)
 
-    sides-out : passed 0 (take count old) (frames_of format.channels block) before ≡ passed (i + 1) rest out h'
-    sides-out =
+    sides_out : passed 0 (take count old) (frames_of format.channels block) before ≡ passed (i + 1) rest out h'
+    sides_out =
         r.sides ∙ ap (λ (l : List Stage). passed i l r.xs h) ahead ∙ passed_cons s rest i r.xs h
         ∙ ap (passed (i + 1) rest out) (sym halves_are)
 
-    makes-out : chain_out (take count old) (frames_of format.channels block) ≡ chain_out rest out
-    makes-out = r.makes ∙ ap (λ (l : List Stage). chain_out l r.xs) ahead
+    makes_out : chain_out (take count old) (frames_of format.channels block) ≡ chain_out rest out
+    makes_out = r.makes ∙ ap (λ (l : List Stage). chain_out l r.xs) ahead
 
-    keeps-out : chain_next (take count old) (frames_of format.channels block) ++ drop count old ≡ take (i + 1) moved ++ (chain_next rest out ++ drop count old)
-    keeps-out =
+    keeps_out : chain_next (take count old) (frames_of format.channels block) ++ drop count old ≡ take (i + 1) moved ++ (chain_next rest out ++ drop count old)
+    keeps_out =
         r.keeps ∙ ap (λ (l : List Stage). take i stages ++ (chain_next l r.xs ++ drop count old)) ahead
         ∙ ap (λ (x : Stage). take i stages ++ (x ∷ (chain_next rest out ++ drop count old))) (sym next_is)
         ∙ sym (append_assoc (take i stages) (next ∷ []) (chain_next rest out ++ drop count old))
         ∙ ap (λ (l : List Stage). l ++ (chain_next rest out ++ drop count old))
         (sym (take-suc-set stages i next (omega arith)) ∙ ap (λ (k : ℕ). take k moved) (sym (add-one i)))
 
-    tail-out : drop (i + 1) moved ≡ drop (i + 1) old
-    tail-out = drop-set-lt (i + 1) stages i next (omega arith) ∙ sym (drop-drop 1 i stages) ∙ ap (drop 1) r.tail ∙ drop-drop 1 i old
+    tail_out : drop (i + 1) moved ≡ drop (i + 1) old
+    tail_out = drop-set-lt (i + 1) stages i next (omega arith) ∙ sym (drop-drop 1 i stages) ∙ ap (drop 1) r.tail ∙ drop-drop 1 i old
 
-    form-out : format_leaving format (take count old) ≡ format_leaving g rest
-    form-out = r.form ∙ ap (format_leaving f) ahead ∙ format_cons s rest f ∙ ap (λ (k : PcmFormat). format_leaving k rest) (sym e)
+    form_out : format_leaving format (take count old) ≡ format_leaving g rest
+    form_out = r.form ∙ ap (format_leaving f) ahead ∙ format_cons s rest f ∙ ap (λ (k : PcmFormat). format_leaving k rest) (sym e)
 
-    pub sized-out : Sized h h'
-    sized-out = subst (Sized h) (sym halves_are) (put_sized i (bytes_of out) h (omega (arith, size_is, within-out)) (omega (arith, size_is, within-out)))
+    pub sized_out : Sized h h'
+    sized_out = subst (Sized h) (sym halves_are) (put_sized i (bytes_of out) h (omega (arith, size_is, within_out)) (omega (arith, size_is, within_out)))
 
-    empty-out : length out ≡ 0 → m ≡ 0
-    empty-out q = size_is ∙ long-out ∙ ap (λ (k : ℕ). k * (g.channels * 2)) q ∙ zero-mul (g.channels * 2)
+    empty_out : length out ≡ 0 → m ≡ 0
+    empty_out q = size_is ∙ long_out ∙ ap (λ (k : ℕ). k * (g.channels * 2)) q ∙ zero-mul (g.channels * 2)
 
     src : source_at (i + 1) m block h' ≡ bytes_of out
     src = ap (source_at (i + 1) m block) halves_are ∙ next_source i m block (bytes_of out) h size_is
 
     -- the frames that come to the next stage
-    pub source-out : frames_of g.channels (source_at (i + 1) m block h') ≡ out
-    source-out = ap (frames_of g.channels) src ∙ frames_bytes g.channels out some-channels good-out
+    pub source_out : frames_of g.channels (source_at (i + 1) m block h') ≡ out
+    source_out = ap (frames_of g.channels) src ∙ frames_bytes g.channels out some_channels good_out
 
     pub none_out : m ≡ 0 → out ≡ []
-    none_out z = none_of out (zero_factor (length out) (g.channels * 2) (omega (arith, some-channels)) (sym long-out ∙ sym size_is ∙ z))
+    none_out z = none_of out (zero_factor (length out) (g.channels * 2) (omega (arith, some_channels)) (sym long_out ∙ sym size_is ∙ z))
 
     -- frames came: the next stage takes them
-    pub next-reached : (m ≡ 0 → ⊥) → Reached old count format block before short moved g m (i + 1) h'
-    next-reached z =
+    pub next_reached : (m ≡ 0 → ⊥) → Reached old count format block before short moved g m (i + 1) h'
+    next_reached z =
         record {
           xs = out;
-          good = good-out;
-          some = positive (length out) (λ q. z (empty-out q));
-          channels = few-channels;
-          source = source-out;
-          long = ap length src ∙ long-out;
+          good = good_out;
+          some = positive (length out) (λ q. z (empty_out q));
+          channels = few_channels;
+          source = source_out;
+          long = ap length src ∙ long_out;
           size = size_is;
           suit = subst (λ (k : PcmFormat). suited k rest ≡ true) (sym e) (suited_rest f s rest (sym (ap (suited f) ahead) ∙ r.suit));
           room = subst (λ (k : PcmFormat). rooms_verdict k rest (length out) short ≡ Accepted) (sym e)
-              (subst (λ (k : ℕ). rooms_verdict (format_after f s.kind) rest k short ≡ Accepted) (sym count-out) (room-rest f s rest (length r.xs) short not_none room_all));
-          sides = sides-out;
-          makes = makes-out;
-          keeps = keeps-out;
-          tail = tail-out;
-          form = form-out;
+              (subst (λ (k : ℕ). rooms_verdict (format_after f s.kind) rest k short ≡ Accepted) (sym count_out) (room_rest f s rest (length r.xs) short not_none room_all));
+          sides = sides_out;
+          makes = makes_out;
+          keeps = keeps_out;
+          tail = tail_out;
+          form = form_out;
         }
 
     -- nothing came: the later stages are not run
     pub stopped : m ≡ 0 → Ended old count format block before moved g m h'
     stopped z = record {
-      keeps = sym (keeps-out ∙ ap (λ (l : List Stage). take (i + 1) moved ++ (l ++ drop count old)) (ap (chain_next rest) out_none ∙ chain_next-nil rest)
-          ∙ ap (λ (l : List Stage). take (i + 1) moved ++ l) (drop_seam old count (i + 1) (omega arith) ∙ sym tail-out) ∙ take-append-drop (i + 1) moved);
-      size = z ∙ sym (ap (λ (xs : List Frame). length (bytes_of xs)) (makes-out ∙ ap (chain_out rest) out_none ∙ chain_out-nil rest) ∙ ap length bytes-nil);
+      keeps = sym (keeps_out ∙ ap (λ (l : List Stage). take (i + 1) moved ++ (l ++ drop count old)) (ap (chain_next rest) out_none ∙ chain_next-nil rest)
+          ∙ ap (λ (l : List Stage). take (i + 1) moved ++ l) (drop_seam old count (i + 1) (omega arith) ∙ sym tail_out) ∙ take-append-drop (i + 1) moved);
+      size = z ∙ sym (ap (λ (xs : List Frame). length (bytes_of xs)) (makes_out ∙ ap (chain_out rest) out_none ∙ chain_out-nil rest) ∙ ap length bytes-nil);
       form = λ q. absurd (q z);
-      halves_are = sym (sides-out ∙ ap (λ (xs : List Frame). passed (i + 1) rest xs h') out_none ∙ passed-nil (i + 1) rest h');
+      halves_are = sym (sides_out ∙ ap (λ (xs : List Frame). passed (i + 1) rest xs h') out_none ∙ passed-nil (i + 1) rest h');
     }
       where
         out_none : out ≡ []
@@ -364,7 +364,7 @@ module _ (c : Pipeline) (block a b : List ℕ) (w : Accepts c block a b) (len : 
       record {
         xs = frames_of c.format.channels block;
         good = frames_are_frames c.format.channels block bytes;
-        some = positive (length (frames_of c.format.channels block)) (λ q. zero-block (first_long ∙ ap (λ (k : ℕ). k * (c.format.channels * 2)) q ∙ zero-mul (c.format.channels * 2)));
+        some = positive (length (frames_of c.format.channels block)) (λ q. zero_block (first_long ∙ ap (λ (k : ℕ). k * (c.format.channels * 2)) q ∙ zero-mul (c.format.channels * 2)));
         channels = ok.channels;
         source = refl;
         long = first_long;
@@ -373,14 +373,14 @@ module _ (c : Pipeline) (block a b : List ℕ) (w : Accepts c block a b) (len : 
         room = rw (whole, first-length) (sym (halves_some c.format (stages_of c) (length block) (shorter a b) n) ∙ w.room);
         sides = rw whole;
         makes = rw whole;
-        keeps = rw whole (take-zero c.stages (chain_next (take c.count c.stages) (frames_of c.format.channels block) ++ drop c.count c.stages));
+        keeps = rw whole (take_zero c.stages (chain_next (take c.count c.stages) (frames_of c.format.channels block) ++ drop c.count c.stages));
         tail = refl;
         form = rw whole;
       }
     where
-      zero-block : length block ≡ 0 → ⊥
-      zero-block q = omega (arith, w.some)
+      zero_block : length block ≡ 0 → ⊥
+      zero_block q = omega (arith, w.some)
 
-      take-zero : (l t : List Stage) → t ≡ take 0 l ++ t
-      take-zero [] t = refl
-      take-zero (x ∷ l) t = refl
+      take_zero : (l t : List Stage) → t ≡ take 0 l ++ t
+      take_zero [] t = refl
+      take_zero (x ∷ l) t = refl

@@ -23,7 +23,7 @@ use Rattle.pcm.specs.laws.Tests.{true_false}
 use Rattle.pipeline.specs.declared.Pipeline.{Pipeline}
 use Rattle.block.specs.Chain.{chain_out, chain_next, chain_clipped}
 use Rattle.block.specs.laws.Chain.{chain_clipped-nil}
-use Rattle.block.specs.laws.Clips.{Clips, clips_first, clips_over, clips-fit, clips-next}
+use Rattle.block.specs.laws.Clips.{Clips, clips_first, clips_over, clips_fit, clips_next}
 use Rattle.block.specs.laws.Steps.{stages_end, drop_zero}
 use Rattle.pipeline.specs.Reset.{format_leaving}
 use Rattle.turns.specs.Turns.{Halves, halves, source_at, TurnAsks, TurnDoes, Takes, Makes}
@@ -34,7 +34,7 @@ use Rattle.block.specs.laws.Bounds.{legal_parts}
 use Rattle.block.specs.laws.Turns.{Turns, Ended, Reached}
 use Rattle.block.specs.Turns.{Accepts}
 use Rattle.answers.specs.Answers.{unstaged, next_stage}
-use Rattle.block.specs.laws.Reaching.{Sized, positive, shorter_a, shorter_b, format_none, passed_none, turns_of, takes, suit_here, ahead, source-out, none_out, next-reached, sized-out, stopped, ended, begun}
+use Rattle.block.specs.laws.Reaching.{Sized, positive, shorter_a, shorter_b, format_none, passed_none, turns_of, takes, suit_here, ahead, source_out, none_out, next_reached, sized_out, stopped, ended, begun}
 use Rattle.stage.specs.laws.Places.{no_stage}
 use Rattle.block.specs.laws.Counts.{no_stages, some_stages, all_stages, halves_some}
 
@@ -110,15 +110,15 @@ module _ (old : Pipeline) (count : ℕ) (format : PcmFormat) (block : List ℕ) 
     reached = ⊎_elim (λ r. r) (λ e. absurd (let b : ⊥ = omega (arith, e.0) in b)) p.place
 
     -- what a turn asks
-    pub turn-asks : TurnAsks i n block h (Takes f s)
-    turn-asks = takes old.stages count format block before short c.stages f n i h no_stage reached more p.long p.old_long p.few in_a in_b
+    pub turn_asks : TurnAsks i n block h (Takes f s)
+    turn_asks = takes old.stages count format block before short c.stages f n i h no_stage reached more p.long p.old_long p.few in_a in_b
 
-    source-good : FramesOf f.channels (reaching f n i block h)
-    source-good = subst (FramesOf f.channels) (sym reached.source) reached.good
+    source_good : FramesOf f.channels (reaching f n i block h)
+    source_good = subst (FramesOf f.channels) (sym reached.source) reached.good
 
     -- the sum of what was held back fits
     pub sum_fits : {held : ℕ} → held ≡ stage_clipped s (reaching f n i block h) → clipped + held ≤ 38400000000000
-    sum_fits q = clips-fit count _ format.rate _ f _ i clipped p.clips more p.few s (reaching f n i block h) refl source-good reached.channels.1 q
+    sum_fits q = clips_fit count _ format.rate _ f _ i clipped p.clips more p.few s (reaching f n i block h) refl source_good reached.channels.1 q
 
     -- the stage has had its turn, and stands in the chain again
     module _ (memory : SoundMemory) (len held : ℕ) (g : PcmFormat) (h' : Halves) (t : TurnDoes i n block h h' (Makes f s memory len held)) (e : g ≡ format_after f s.kind) where
@@ -129,52 +129,52 @@ module _ (old : Pipeline) (count : ℕ) (format : PcmFormat) (block : List ℕ) 
       turn = turns_of f s memory i n len held block h h' t
 
       sized : Sized h h'
-      sized = sized-out old.stages count format block before short c.stages f n i h no_stage reached more p.long p.old_long p.few in_a in_b next len g h' turn e
+      sized = sized_out old.stages count format block before short c.stages f n i h no_stage reached more p.long p.old_long p.few in_a in_b next len g h' turn e
 
-      place-next : Reached old.stages count format block before short (set c.stages i next) g len (next_stage i count len) h'
+      place_next : Reached old.stages count format block before short (set c.stages i next) g len (next_stage i count len) h'
           ⊎ ((next_stage i count len ≡ count) × Ended old.stages count format block before (set c.stages i next) g len h')
-      place-next = go (eqb len 0) refl
+      place_next = go (eqb len 0) refl
         where
           go : (b : Bool) → eqb len 0 ≡ b → Reached old.stages count format block before short (set c.stages i next) g len (cond b count (i + 1)) h'
               ⊎ ((cond b count (i + 1) ≡ count) × Ended old.stages count format block before (set c.stages i next) g len h')
           go true z = inr (refl, stopped old.stages count format block before short c.stages f n i h no_stage reached more p.long p.old_long p.few in_a in_b next len g h' turn e (eqb-true len 0 z))
-          go false z = inl (next-reached old.stages count format block before short c.stages f n i h no_stage reached more p.long p.old_long p.few in_a in_b next len g h' turn e (eqb-false len 0 z))
+          go false z = inl (next_reached old.stages count format block before short c.stages f n i h no_stage reached more p.long p.old_long p.few in_a in_b next len g h' turn e (eqb-false len 0 z))
 
       -- what comes to the next stage
       made : reaching g len (i + 1) block h' ≡ stage_out s reached.xs
-      made = source-out old.stages count format block before short c.stages f n i h no_stage reached more p.long p.old_long p.few in_a in_b next len g h' turn e
+      made = source_out old.stages count format block before short c.stages f n i h no_stage reached more p.long p.old_long p.few in_a in_b next len g h' turn e
 
       suit : stage_suits f s.kind s.memory ≡ true
       suit = suit_here old.stages count format block before short c.stages f n i h no_stage reached more p.long p.old_long p.few in_a in_b
 
-      clipped-ahead : chain_clipped (drop i (take count old.stages)) (reaching f n i block h) ≡ stage_clipped s (reaching f n i block h) + chain_clipped (drop (i + 1) (take count old.stages)) (reaching g len (i + 1) block h')
-      clipped-ahead =
+      clipped_ahead : chain_clipped (drop i (take count old.stages)) (reaching f n i block h) ≡ stage_clipped s (reaching f n i block h) + chain_clipped (drop (i + 1) (take count old.stages)) (reaching g len (i + 1) block h')
+      clipped_ahead =
           ap (λ (l : List Stage). chain_clipped l (reaching f n i block h)) (ahead old.stages count format block before short c.stages f n i h no_stage reached more p.long p.old_long p.few in_a in_b)
           ∙ ap (λ (ys : List Frame). stage_clipped s (reaching f n i block h) + chain_clipped (drop (i + 1) (take count old.stages)) ys) (ap (stage_out s) reached.source ∙ sym made)
 
       delivered : length (reaching g len (i + 1) block h') ≤ frames_wanted s.kind (length (reaching f n i block h))
       delivered = rw (made, reached.source, stage_count s reached.xs) (wanted_holds f s.memory s.kind (length reached.xs) suit)
 
-      clips-after : ClipsAt (take count old.stages) count format block g len (i + 1) h' (clipped + held)
-      clips-after =
-          clips-next count _ format.rate _ f _ i clipped p.clips more p.few s (reaching f n i block h) refl source-good reached.channels.1 t.does.holds clipped-ahead suit delivered e
+      clips_after : ClipsAt (take count old.stages) count format block g len (i + 1) h' (clipped + held)
+      clips_after =
+          clips_next count _ format.rate _ f _ i clipped p.clips more p.few s (reaching f n i block h) refl source_good reached.channels.1 t.does.holds clipped_ahead suit delivered e
 
-      clipped-over : len ≡ 0 → (j : ℕ) → count ≤ j → chain_clipped (drop (i + 1) (take count old.stages)) (reaching g len (i + 1) block h') ≡ chain_clipped (drop j (take count old.stages)) (reaching g len j block h')
-      clipped-over z j l =
+      clipped_over : len ≡ 0 → (j : ℕ) → count ≤ j → chain_clipped (drop (i + 1) (take count old.stages)) (reaching g len (i + 1) block h') ≡ chain_clipped (drop j (take count old.stages)) (reaching g len j block h')
+      clipped_over z j l =
           ap (chain_clipped (drop (i + 1) (take count old.stages))) (made ∙ none_out old.stages count format block before short c.stages f n i h no_stage reached more p.long p.old_long p.few in_a in_b next len g h' turn e z)
           ∙ chain_clipped-nil (drop (i + 1) (take count old.stages))
           ∙ sym (ap (λ (r : List Stage). chain_clipped r (reaching g len j block h')) (stages_end old.stages count j l))
 
-      clips-here : ClipsAt (take count old.stages) count format block g len (next_stage i count len) h' (clipped + held)
-      clips-here = go (eqb len 0) refl
+      clips_here : ClipsAt (take count old.stages) count format block g len (next_stage i count len) h' (clipped + held)
+      clips_here = go (eqb len 0) refl
         where
           go : (b : Bool) → eqb len 0 ≡ b → ClipsAt (take count old.stages) count format block g len (cond b count (i + 1)) h' (clipped + held)
           go true z =
-              clips_over count _ format.rate _ g _ (i + 1) (clipped + held) clips-after (omega arith) (clipped-over (eqb-true len 0 z) count (le_refl count))
-          go false z = clips-after
+              clips_over count _ format.rate _ g _ (i + 1) (clipped + held) clips_after (omega arith) (clipped_over (eqb-true len 0 z) count (le_refl count))
+          go false z = clips_after
 
-      at-most-next : next_stage i count len ≤ count
-      at-most-next = go (eqb len 0)
+      at_most_next : next_stage i count len ≤ count
+      at_most_next = go (eqb len 0)
         where
           go : (b : Bool) → cond b count (i + 1) ≤ count
           go true = omega arith
@@ -192,7 +192,7 @@ module _ (old : Pipeline) (count : ℕ) (format : PcmFormat) (block : List ℕ) 
 
           done : Plays old count format block before short (with_stages old (set c.stages i next)) g len (next_stage i count len) h' (clipped + held)
           done = record {
-            at_most = at-most-next;
+            at_most = at_most_next;
             few = p.few;
             long = length-set c.stages i next ∙ p.long;
             old_long = p.old_long;
@@ -201,8 +201,8 @@ module _ (old : Pipeline) (count : ℕ) (format : PcmFormat) (block : List ℕ) 
             room_a = p.room_a;
             room_b = p.room_b;
             chain = refl;
-            place = place-next;
-            clips = clips-here;
+            place = place_next;
+            clips = clips_here;
           }
 
       -- the stage stayed as it was
@@ -237,16 +237,16 @@ module _ (c : Pipeline) (block a b : List ℕ) (w : Accepts c block a b) (len : 
     kept : (c.count ≡ 0 → ⊥) → a₀ ≡ a
     kept z = u ∙ rw (ne_eqb c.count 0 z)
 
-    pub length-first : length a₀ ≡ length a
-    length-first = go (eqb c.count 0) refl
+    pub length_first : length a₀ ≡ length a
+    length_first = go (eqb c.count 0) refl
       where
         go : (t : Bool) → eqb c.count 0 ≡ t → length a₀ ≡ length a
         go true k = ap length (copied (eqb-true _ _ k)) ∙ length_written block a (omega (arith, copy_room_lem c block a b (eqb-true _ _ k) w, shorter_a a b))
         go false k = ap length (kept (eqb-false _ _ k))
 
-    place-first : Reached c.stages c.count c.format block (halves a₀ b) short c.stages c.format (length block) 0 (halves a₀ b)
+    place_first : Reached c.stages c.count c.format block (halves a₀ b) short c.stages c.format (length block) 0 (halves a₀ b)
         ⊎ ((0 ≡ c.count) × Ended c.stages c.count c.format block (halves a₀ b) c.stages c.format (length block) (halves a₀ b))
-    place-first = go (eqb c.count 0) refl
+    place_first = go (eqb c.count 0) refl
       where
         go : (t : Bool) → eqb c.count 0 ≡ t → Reached c.stages c.count c.format block (halves a₀ b) short c.stages c.format (length block) 0 (halves a₀ b)
             ⊎ ((0 ≡ c.count) × Ended c.stages c.count c.format block (halves a₀ b) c.stages c.format (length block) (halves a₀ b))
@@ -256,26 +256,26 @@ module _ (c : Pipeline) (block a b : List ℕ) (w : Accepts c block a b) (len : 
             (subst (λ (m : ℕ). Reached c.stages c.count c.format block (halves a b) m c.stages c.format (length block) 0 (halves a b)) (sym v)
             (begun c block a b w len bytes (positive c.count (eqb-false _ _ k)))))
 
-    clips-begun : ClipsAt (stages_of c) c.count c.format block c.format (length block) 0 (halves a₀ b) 0
-    clips-begun =
+    clips_begun : ClipsAt (stages_of c) c.count c.format block c.format (length block) 0 (halves a₀ b) 0
+    clips_begun =
         subst (λ (l : List Stage). Clips c.count (chain_clipped (stages_of c) (frames_of c.format.channels block)) c.format.rate (chain_clipped l (frames_of c.format.channels block)) c.format (length (frames_of c.format.channels block)) 0 0)
         (sym (drop_zero (stages_of c)))
         (clips_first c.count _ c.format.rate c.format (length (frames_of c.format.channels block)) (legal_parts c w.chain).rate refl (rw (length_frames c.format.channels block) w.most))
 
-    pub plays-first : Plays c c.count c.format block (halves a₀ b) short c c.format (length block) 0 (halves a₀ b) 0
+    pub plays_first : Plays c c.count c.format block (halves a₀ b) short c c.format (length block) 0 (halves a₀ b) 0
     unfolding with_stages
-    plays-first = record {
+    plays_first = record {
       at_most = omega arith;
       few = (legal_parts c w.chain).few;
       long = len;
       old_long = len;
       same_a = refl;
       same_b = refl;
-      room_a = omega (arith, shorter_a a b, length-first);
+      room_a = omega (arith, shorter_a a b, length_first);
       room_b = omega (arith, shorter_b a b);
       chain = same;
-      place = place-first;
-      clips = clips-begun;
+      place = place_first;
+      clips = clips_begun;
     }
       where
         same : c ≡ with_stages c c.stages

@@ -41,13 +41,13 @@ accepts c format block a b h =
 
 module _ (f : PcmFormat) (s : Stage) (rest : List Stage) where
   module _ (n shorter : ℕ) where
-    pub room-none : n ≡ 0 → rooms_verdict f (s ∷ rest) n shorter ≡ Accepted
+    pub room_none : n ≡ 0 → rooms_verdict f (s ∷ rest) n shorter ≡ Accepted
     unfolding rooms_verdict
-    room-none h = rw (eq-eqb n 0 h)
+    room_none h = rw (eq-eqb n 0 h)
 
-    pub room-short : (room : ℕ) → (n ≡ 0 → ⊥) → room ≡ room_wanted f s.kind n → shorter < room → rooms_verdict f (s ∷ rest) n shorter ≡ Refused (BufferTooSmall (2 * room))
+    pub room_short : (room : ℕ) → (n ≡ 0 → ⊥) → room ≡ room_wanted f s.kind n → shorter < room → rooms_verdict f (s ∷ rest) n shorter ≡ Refused (BufferTooSmall (2 * room))
     unfolding rooms_verdict
-    room-short room h e l = rw (ne_eqb n 0 h, ← e, lt-leb room shorter l)
+    room_short room h e l = rw (ne_eqb n 0 h, ← e, lt-leb room shorter l)
 
     pub room_next : (room m : ℕ) (g : PcmFormat) → (n ≡ 0 → ⊥) → room ≡ room_wanted f s.kind n → room ≤ shorter
         → m ≡ frames_out s.kind s.memory n → g ≡ format_after f s.kind → rooms_verdict f (s ∷ rest) n shorter ≡ rooms_verdict g rest m shorter
@@ -55,10 +55,10 @@ module _ (f : PcmFormat) (s : Stage) (rest : List Stage) where
     room_next room m g h e l i j = rw (ne_eqb n 0 h, ← e, le-leb room shorter l, i, j)
 
     -- what an accepted block's stage finds
-    pub room-first : (n ≡ 0 → ⊥) → rooms_verdict f (s ∷ rest) n shorter ≡ Accepted → room_wanted f s.kind n ≤ shorter
+    pub room_first : (n ≡ 0 → ⊥) → rooms_verdict f (s ∷ rest) n shorter ≡ Accepted → room_wanted f s.kind n ≤ shorter
     unfolding rooms_verdict
-    room-first h e = leb-true _ _ (ask_yes (leb (room_wanted f s.kind n) shorter) _ _ (rw (ne_eqb n 0 h) at e)).0
+    room_first h e = leb-true _ _ (ask_yes (leb (room_wanted f s.kind n) shorter) _ _ (rw (ne_eqb n 0 h) at e)).0
 
-    pub room-rest : (n ≡ 0 → ⊥) → rooms_verdict f (s ∷ rest) n shorter ≡ Accepted → rooms_verdict (format_after f s.kind) rest (frames_out s.kind s.memory n) shorter ≡ Accepted
+    pub room_rest : (n ≡ 0 → ⊥) → rooms_verdict f (s ∷ rest) n shorter ≡ Accepted → rooms_verdict (format_after f s.kind) rest (frames_out s.kind s.memory n) shorter ≡ Accepted
     unfolding rooms_verdict
-    room-rest h e = (ask_yes (leb (room_wanted f s.kind n) shorter) _ _ (rw (ne_eqb n 0 h) at e)).1
+    room_rest h e = (ask_yes (leb (room_wanted f s.kind n) shorter) _ _ (rw (ne_eqb n 0 h) at e)).1

@@ -27,7 +27,7 @@ use Rattle.answers.specs.declared.Scratch.TheVariants as scratch
 use Rattle.block.specs.BlockCall.{legal, suited, rooms_verdict, halves_verdict, size_asked, block_verdict, largest_room, scratch_answer, scratch_figure, scratch_bytes}
 use Rattle.pipeline.specs.WritingBack.{stages_of}
 use Rattle.questions.specs.Walk.{whole_frames, same_format, larger, head_legal, size_verdict, block_frames, due_of, first_short, room_of, further, illegal, stepped, copy_room, begun, walked, sized_from, verdict_from}
-use Rattle.block.specs.laws.Steps.{room-none, room-short, room_next}
+use Rattle.block.specs.laws.Steps.{room_none, room_short, room_next}
 use Rattle.block.specs.laws.Bounds.{suited_first, suited_rest, next_bound, few_frames, larger_least, larger_assoc, larger-zero}
 use Rattle.questions.specs.laws.Walking.{frames_most, delivered_within, room_fits, step_suits, step_unsuited, step_illegal}
 
@@ -206,7 +206,7 @@ module _ (shorter : ℕ) (w : Walk) (s : Stage) (l : List Stage) where
     not_reached z =
         then_none here then (room_held shorter w.short (room_of Block w s) e (rw (room_none_wanted w s z) (let b : 0 ≤ shorter = omega arith in b)))
         ∙ ap (λ (d : Due). rooms_verdict (format_after w.format s.kind) l d.delivered shorter) (due_none w s z) ∙ none_reached (format_after w.format s.kind) l shorter
-        ∙ sym (room-none w.format s l w.frames shorter z)
+        ∙ sym (room_none w.format s l w.frames shorter z)
 
     holds : (w.frames ≡ 0 → ⊥) → room ≤ shorter → short_then here then ≡ rooms_verdict w.format (s ∷ l) w.frames shorter
     holds z h =
@@ -214,19 +214,19 @@ module _ (shorter : ℕ) (w : Walk) (s : Stage) (l : List Stage) where
         ∙ ap (λ (d : Due). rooms_verdict (format_after w.format s.kind) l d.delivered shorter) (due_some w s z)
         ∙ sym (room_next w.format s l w.frames shorter room (frames_out s.kind s.memory w.frames) (format_after w.format s.kind) z refl h refl refl)
 
-    falls-short : (w.frames ≡ 0 → ⊥) → shorter < room → short_then here then ≡ rooms_verdict w.format (s ∷ l) w.frames shorter
-    falls-short z h =
+    falls_short : (w.frames ≡ 0 → ⊥) → shorter < room → short_then here then ≡ rooms_verdict w.format (s ∷ l) w.frames shorter
+    falls_short z h =
         let k : here ≡ room = room_not_held shorter w.short (room_of Block w s) e (rw (room_some_wanted w s z) h) ∙ room_some_wanted w s z in
         ap (λ (n : ℕ). short_then n then) k ∙ then_short room then (λ q. let b : ⊥ = omega arith in b)
-        ∙ sym (room-short w.format s l w.frames shorter room z refl h)
+        ∙ sym (room_short w.format s l w.frames shorter room z refl h)
 
-    first-asked : (u : Bool) → eqb w.frames 0 ≡ u → (v : Bool) → leb room shorter ≡ v → short_then here then ≡ rooms_verdict w.format (s ∷ l) w.frames shorter
-    first-asked true k v m = not_reached (eqb-true _ _ k)
-    first-asked false k true m = holds (eqb-false _ _ k) (leb-true _ _ m)
-    first-asked false k false m = falls-short (eqb-false _ _ k) (leb-false _ _ m)
+    first_asked : (u : Bool) → eqb w.frames 0 ≡ u → (v : Bool) → leb room shorter ≡ v → short_then here then ≡ rooms_verdict w.format (s ∷ l) w.frames shorter
+    first_asked true k v m = not_reached (eqb-true _ _ k)
+    first_asked false k true m = holds (eqb-false _ _ k) (leb-true _ _ m)
+    first_asked false k false m = falls_short (eqb-false _ _ k) (leb-false _ _ m)
 
   step_short : (t : Bool) → eqb w.short 0 ≡ t → short_then here then ≡ short_then w.short (rooms_verdict w.format (s ∷ l) w.frames shorter)
-  step_short true e = first-asked (eqb-true _ _ e) (eqb w.frames 0) refl (leb room shorter) refl ∙ sym (then_none w.short (rooms_verdict w.format (s ∷ l) w.frames shorter) (eqb-true _ _ e))
+  step_short true e = first_asked (eqb-true _ _ e) (eqb w.frames 0) refl (leb room shorter) refl ∙ sym (then_none w.short (rooms_verdict w.format (s ∷ l) w.frames shorter) (eqb-true _ _ e))
   step_short false e = short_stays (eqb-false _ _ e)
 
 module _ (shorter : ℕ) where
@@ -362,15 +362,15 @@ module _ (c : Pipeline) (format : PcmFormat) (size shorter : ℕ) (head : head_l
       moved : (c.count ≡ 0 → ⊥) → start.short ≡ 0
       moved z = start_short ∙ ap (first_short shorter 0) (rw (ne_eqb c.count 0 z)) ∙ first_room 0 ∙ none_wanted (leb 0 shorter)
 
-      copy-verdict : (t : Bool) → leb size shorter ≡ t → ask t (BufferTooSmall (2 * size)) Accepted ≡ short_verdict (cond t 0 size)
-      copy-verdict true e = refl
-      copy-verdict false e = let m : shorter < size = leb-false size shorter e in rw (ne_eqb size 0 (λ z. let b : ⊥ = omega arith in b))
+      copy_verdict : (t : Bool) → leb size shorter ≡ t → ask t (BufferTooSmall (2 * size)) Accepted ≡ short_verdict (cond t 0 size)
+      copy_verdict true e = refl
+      copy_verdict false e = let m : shorter < size = leb-false size shorter e in rw (ne_eqb size 0 (λ z. let b : ⊥ = omega arith in b))
 
       go : (l : List Stage) → stages_of c ≡ l → halves_verdict c.format l size shorter ≡ short_verdict (walked Block shorter start l).short
       go [] e = at (eqb c.count 0) refl
         where
           at : (t : Bool) → eqb c.count 0 ≡ t → ask (leb size shorter) (BufferTooSmall (2 * size)) Accepted ≡ short_verdict start.short
-          at true k = copy-verdict (leb size shorter) refl ∙ ap short_verdict (sym (copied (eqb-true _ _ k)))
+          at true k = copy_verdict (leb size shorter) refl ∙ ap short_verdict (sym (copied (eqb-true _ _ k)))
           at false k = absurd (some (eqb-false _ _ k) e)
       go (s ∷ l) e = at (eqb c.count 0) refl
         where
@@ -387,17 +387,17 @@ module _ (c : Pipeline) (format : PcmFormat) (size shorter : ℕ) (head : head_l
   verdict_is =
       sym (asked_is c size head Block shorter start _ at_start.legal at_start.format
       ∙ after_same (sized_from c.format size (walked Block shorter start (stages_of c))) _ _
-      (λ h. ap (ask (same_format c.format format) Unsupported) (room_is (suited-here h) (sized-here h))))
+      (λ h. ap (ask (same_format c.format format) Unsupported) (room_is (suited_here h) (sized_here h))))
     where
       parts : (t : Bool) → ask t InvalidFormat (size_verdict c.format size) ≡ Accepted → (t ≡ true) × (size_verdict c.format size ≡ Accepted)
       parts true e = (refl, e)
       parts false e = (cc, cc)
 
-      suited-here : sized_from c.format size (walked Block shorter start (stages_of c)) ≡ Accepted → suited c.format (stages_of c) ≡ true
-      suited-here h = sym (walked_legal Block shorter start (stages_of c) at_start.legal ∙ ap (λ (f : PcmFormat). suited f (stages_of c)) at_start.format) ∙ (parts (walked Block shorter start (stages_of c)).legal h).0
+      suited_here : sized_from c.format size (walked Block shorter start (stages_of c)) ≡ Accepted → suited c.format (stages_of c) ≡ true
+      suited_here h = sym (walked_legal Block shorter start (stages_of c) at_start.legal ∙ ap (λ (f : PcmFormat). suited f (stages_of c)) at_start.format) ∙ (parts (walked Block shorter start (stages_of c)).legal h).0
 
-      sized-here : sized_from c.format size (walked Block shorter start (stages_of c)) ≡ Accepted → size_verdict c.format size ≡ Accepted
-      sized-here h = (parts (walked Block shorter start (stages_of c)).legal h).1
+      sized_here : sized_from c.format size (walked Block shorter start (stages_of c)) ≡ Accepted → size_verdict c.format size ≡ Accepted
+      sized_here h = (parts (walked Block shorter start (stages_of c)).legal h).1
 
 -- ---- and `scratch_bytes`' figure
 pub head_illegal : (c : Pipeline) → head_legal c.format c.count ≡ false → legal c ≡ false

@@ -21,7 +21,7 @@ use Rattle.stage_words.specs.laws.Reading.{length_memory, stage_same}
 use Rattle.words.specs.laws.Runs.{before_run, after_run, from_run}
 use Rattle.chain_words.specs.Kept.{kept_words, with_sound}
 use Rattle.chain_words.specs.Layout.{counter_words, place_of, stage_at, stages_from, counter_at, chain_at, kinds_known, stands, chain_of_words}
-use Rattle.chain_words.specs.laws.Places.{memory-written, other_place}
+use Rattle.chain_words.specs.laws.Places.{memory_written, other_place}
 
 abbrev pub KeptStage : Stage → Type 0
 KeptStage s = Kept s.memory
@@ -60,7 +60,7 @@ kept_stages (s ∷ l) w i n e h =
     let w₁ : List ℕ = sets w (8 + 18 * i + 7) (memory_words s.memory) in
     let a : (stage_at w i).kind ≡ s.kind = cc in
     let b : kinds_of (stages_from w (suc i) (length l)) ≡ kinds_of l = cc in
-    let here : stage_at w₁ i ≡ record { kind = (stage_at w i).kind; memory = s.memory } = memory-written w i s.memory (omega arith) h.0.filter h.0.last h.0.phase in
+    let here : stage_at w₁ i ≡ record { kind = (stage_at w i).kind; memory = s.memory } = memory_written w i s.memory (omega arith) h.0.filter h.0.last h.0.phase in
     let first : stage_at (kept_words w₁ (suc i) l) i ≡ s = earlier_place l w₁ (suc i) i (omega arith) ∙ here ∙ ap (λ (q : StageKind). record { kind = q; memory = s.memory }) a in
     let rest : stages_from (kept_words w₁ (suc i) l) (suc i) (length l) ≡ l =
     kept_stages l w₁ (suc i) (omega (arith, length-sets w (8 + 18 * i + 7) (memory_words s.memory))) (ap kinds_of (later_stages w s.memory i (suc i) (length l) (omega arith)) ∙ b) h.1 in

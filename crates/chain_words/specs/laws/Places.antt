@@ -51,9 +51,9 @@ module _ (w : List ℕ) (i : ℕ) where
     back : (j : ℕ) → 7 ≤ j → j < 18 → word (place_of after i) j ≡ word like j
     back j a h = let e : 7 + (j - 7) ≡ j = omega arith in subst (λ (x : ℕ). word (place_of after i) x ≡ word like x) e (later (j - 7) (omega arith))
 
-    pub memory-written : HeldFilter m.filter → TwoSamples m.resampler.last → m.resampler.phase < 4294967296
+    pub memory_written : HeldFilter m.filter → TwoSamples m.resampler.last → m.resampler.phase < 4294967296
         → stage_at (sets w (8 + 18 * i + 7) (memory_words m)) i ≡ record { kind = (stage_at w i).kind; memory = m }
-    memory-written f t p = ap₂ (λ (k : StageKind) (n : SoundMemory). record { kind = k; memory = n })
+    memory_written f t p = ap₂ (λ (k : StageKind) (n : SoundMemory). record { kind = k; memory = n })
         (kind_same (place_of after i) (place_of w i) front)
         (memory_same (place_of after i) like back ∙ memory_back m f t p 0 0 0 0 0 0 0 [])
 

@@ -5,7 +5,7 @@ use Prim.Native.Nat.{◌+◌, ◌-◌}
 use native.Mathlib.Omega.{arith}
 use lib.ListN.{length, take, drop}
 use Rattle.pcm.specs.Samples.{outside16, decode}
-use Rattle.counting.specs.laws.Loops.{Counting, counting_start, counting-part, counting-fits, counting-end, Span, span, part_length}
+use Rattle.counting.specs.laws.Loops.{Counting, counting_start, counting_part, counting_fits, counting_end, Span, span, part_length}
 use Rattle.channels.specs.Channels.{sums, mix_clipped}
 use Rattle.channels.proofs.Counts.{sums_from, length_sums_from, sums_part, sums_past}
 use Rattle.channels.proofs.mix_clipped.Statement.{statement}
@@ -40,12 +40,12 @@ loop-again c =
     let at = c.loop-at.at in
     let to = at + c.least.result in
     let e = ends least in
-    counting-part c.loop-at.invariant (sums (decode (take (to - at) (drop at a))) (decode (take (to - at) (drop at b)))) e.inside e.even
+    counting_part c.loop-at.invariant (sums (decode (take (to - at) (drop at a))) (decode (take (to - at) (drop at b)))) e.inside e.even
     (sums_part a b at to c.requires.1 e.after e.inside e.whole) c.span_clipped.ensures
 
 returns : tie.Need-returns invariant-loop decreases-loop
 unfolding mix_clipped
-returns c = let s = c.args in counting-end c.loop-at.invariant (sums_past s.a.now s.b.now c.loop-at.at (omega arith))
+returns c = let s = c.args in counting_end c.loop-at.invariant (sums_past s.a.now s.b.now c.loop-at.at (omega arith))
 
 pub mix_clipped_spec : {M : Type 1} → statement M
 mix_clipped_spec = tie.close (tie.spec invariant-loop decreases-loop
@@ -61,7 +61,7 @@ mix_clipped_spec = tie.close (tie.spec invariant-loop decreases-loop
     (λ c. let e = ends c.before in omega (arith, e.inside, c.requires.1))
     span-clipped-requires
     (λ c. search rules)
-    (λ c. let s = c.args in record { fits = omega (arith, counting-fits (loop-again c), length_sums_from s.a.now s.b.now) })
+    (λ c. let s = c.args in record { fits = omega (arith, counting_fits (loop-again c), length_sums_from s.a.now s.b.now) })
     (λ c. omega arith)
     loop-again
     returns)

@@ -9,7 +9,7 @@ use Rattle.pcm.specs.Samples.{sample_at}
 use Rattle.pcm.specs.Frames.{written}
 use Rattle.pcm.specs.laws.Writing.{Writing, writing_start, writing_as, writing_put, writing_end, next_pair}
 use Rattle.channels.specs.Channels.{stereo_bytes}
-use Rattle.channels.specs.laws.Channels.{stereo_next, stereo-nil, length_stereo}
+use Rattle.channels.specs.laws.Channels.{stereo_next, stereo_nil, length_stereo}
 use Rattle.channels.proofs.mono_to_stereo.Statement.{statement}
 use Rattle.channels.proofs.mono_to_stereo.Tie as tie
 
@@ -36,7 +36,7 @@ loop-again c =
 returns : tie.Need-returns invariant-loop decreases-loop
 returns c =
     let s = c.args in
-    writing_end stereo_bytes s.input.now c.loop-i.i c.loop-i.invariant.3 (omega arith) stereo-nil (omega arith)
+    writing_end stereo_bytes s.input.now c.loop-i.i c.loop-i.invariant.3 (omega arith) stereo_nil (omega arith)
 
 pub mono_to_stereo_spec : {M : Type 1} → statement M
 mono_to_stereo_spec = tie.close (tie.spec invariant-loop decreases-loop

@@ -20,9 +20,9 @@ module _ (a b : ℕ) (rest : List ℕ) where
   unfolding mono_bytes bytes_of
   mono_next c d = ap (λ (fs : List Frame). bytes_of (map mixdown fs)) (frames_stereo a b c d rest)
 
-pub stereo-nil : stereo_bytes [] ≡ []
+pub stereo_nil : stereo_bytes [] ≡ []
 unfolding stereo_bytes bytes_of
-stereo-nil = ap (λ (fs : List Frame). bytes_of (map doubled fs)) (frames-nil 1)
+stereo_nil = ap (λ (fs : List Frame). bytes_of (map doubled fs)) (frames-nil 1)
 
 pub mono-nil : mono_bytes [] ≡ []
 unfolding mono_bytes bytes_of
@@ -37,7 +37,7 @@ mono-append x y e =
 
 -- ---- lengths
 pub length_stereo : (bytes : List ℕ) → length bytes % 2 ≡ 0 → length (stereo_bytes bytes) ≡ length bytes * 2
-length_stereo [] e = ap length stereo-nil
+length_stereo [] e = ap length stereo_nil
 length_stereo (a ∷ []) e = absurd (let z : ⊥ = omega (arith, e) in z)
 length_stereo (a ∷ b ∷ rest) e = ap length (stereo_next a b rest) ∙ omega (arith, length_stereo rest (omega (arith, e)))
 

@@ -19,21 +19,21 @@ module _ {p : ℤ → Bool} {rest : ℕ → List ℤ} {n : ℕ} where
   counting_start = record { inside = omega arith; even = refl; is = omega arith }
 
   module _ {c i : ℕ} (w : Counting p rest n c i) where
-    pub counting-fits : c ≤ length (rest 0)
-    counting-fits = omega (arith, w.is, count_le p (rest 0))
+    pub counting_fits : c ≤ length (rest 0)
+    counting_fits = omega (arith, w.is, count_le p (rest 0))
 
-    pub counting-end : rest i ≡ [] → c ≡ count_of p (rest 0)
-    counting-end e = omega (arith, w.is, ap (count_of p) e)
+    pub counting_end : rest i ≡ [] → c ≡ count_of p (rest 0)
+    counting_end e = omega (arith, w.is, ap (count_of p) e)
 
     -- the samples up to byte j, of which r have p
-    pub counting-part : {j r : ℕ} (part : List ℤ) → j ≤ n → j % 2 ≡ 0 → rest i ≡ part ++ rest j → r ≡ count_of p part → Counting p rest n (c + r) j
-    counting-part {j} part h e cut f = record { inside = h; even = e; is = omega (arith, w.is, f, ap (count_of p) cut, count-append p part (rest j)) }
+    pub counting_part : {j r : ℕ} (part : List ℤ) → j ≤ n → j % 2 ≡ 0 → rest i ≡ part ++ rest j → r ≡ count_of p part → Counting p rest n (c + r) j
+    counting_part {j} part h e cut f = record { inside = h; even = e; is = omega (arith, w.is, f, ap (count_of p) cut, count-append p part (rest j)) }
 
     -- one sample more
-    pub counting-next : {x : ℤ} {r : ℕ} → n % 2 ≡ 0 → i < n → rest i ≡ x ∷ rest (i + 2) → r ≡ one (p x) → Counting p rest n (c + r) (i + 2)
-    counting-next {x} whole h e f =
+    pub counting_next : {x : ℤ} {r : ℕ} → n % 2 ≡ 0 → i < n → rest i ≡ x ∷ rest (i + 2) → r ≡ one (p x) → Counting p rest n (c + r) (i + 2)
+    counting_next {x} whole h e f =
         let even = w.even in
-        counting-part (x ∷ []) (omega arith) (omega arith) e (omega (arith, f))
+        counting_part (x ∷ []) (omega arith) (omega arith) e (omega (arith, f))
 
 -- a span of r bytes from `at` on, at most 65,536 and no further than n
 pub record Span (n at r : ℕ) : Type 0 where

@@ -9,7 +9,7 @@ use lib.Ieee.{nan}
 use mir.Syntax.{w16}
 use Rattle.pcm.specs.laws.Integers.{answered}
 use Rattle.counting.specs.Counting.{one}
-use Rattle.filters.specs.laws.Filters.{TwoChannels, two_of, taps_at, Filtering, filtering_start, filtering-stereo, filtering_end}
+use Rattle.filters.specs.laws.Filters.{TwoChannels, two_of, taps_at, Filtering, filtering_start, filtering_stereo, filtering_end}
 use Rattle.dc_block.specs.DcBlock.{dc_tick}
 use Rattle.dc_block.proofs.Ticks.{ticked}
 use Rattle.dc_block.proofs.stereo.Statement.{statement}
@@ -38,7 +38,7 @@ loop-again c =
     let at-get = at-get2.before.before in
     let at-loop = at-get.before.before in
     let s = at-loop.before.before.before.before.before.before.before in
-    filtering-stereo s.requires.room (search rules) s.requires.whole at-loop.loop-i.invariant
+    filtering_stereo s.requires.room (search rules) s.requires.whole at-loop.loop-i.invariant
     (ticked _ _ at-output.output-ly1.ensures (answered w16 at-get.get_i16-lx.type_inv at-get.get_i16-lx.ensures))
     (ticked _ _ at-output2.output-ry1.ensures (answered w16 at-get2.get_i16-rx.type_inv at-get2.get_i16-rx.ensures))
     at-put.put_i16.ensures

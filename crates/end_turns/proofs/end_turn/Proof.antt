@@ -7,7 +7,7 @@ use lib.ListN.{length}
 use Rattle.pcm.specs.laws.Samples.{all_by_index}
 use Rattle.pcm.specs.Frames.{FramesOf, frames_of}
 use Rattle.pcm.specs.laws.Frames.{frames_are_frames}
-use Rattle.end_turns.proofs.ToEnd.{within, last_fits, size-most, serves-to-end}
+use Rattle.end_turns.proofs.ToEnd.{within, last_fits, size_most, serves_to_end}
 use Rattle.end_turns.proofs.end_turn.Statement.{statement}
 use Rattle.end_turns.proofs.end_turn.Tie as tie
 
@@ -36,12 +36,12 @@ end_turn_spec = tie.close (tie.spec
     record {
       fits = omega (
         arith,
-        size-most a.format a.s a.input.now a.out.now (s t).requires c.arrived-t.result.memory c.arrived-t.result.len c.arrived-t.result.clipped (out t) c.arrived-t.ensures (frames t)
+        size_most a.format a.s a.input.now a.out.now (s t).requires c.arrived-t.result.memory c.arrived-t.result.len c.arrived-t.result.clipped (out t) c.arrived-t.ensures (frames t)
             c.put_last-last.result _ c.put_last-last.ensures.0 c.put_last-last.ensures.1,
         (s t).well_formed,
       );
     })
     (λ c. search rules)
     (λ c. let p = c.before.before in let t = p.before.before.before.before.before.before in let a = (s t).args in
-    serves-to-end a.format a.s a.input.now a.out.now (s t).requires c.arrived-t.result.memory c.arrived-t.result.len c.arrived-t.result.clipped (out t) c.arrived-t.ensures (frames t)
+    serves_to_end a.format a.s a.input.now a.out.now (s t).requires c.arrived-t.result.memory c.arrived-t.result.len c.arrived-t.result.clipped (out t) c.arrived-t.ensures (frames t)
     c.put_last-last.result _ c.put_last-last.ensures.0 c.put_last-last.ensures.1))

@@ -26,13 +26,13 @@ module _ (ch : ℕ) (r : LinearResampler) (s : ResamplerState) where
     unfolding resampler_end held_last
     not_held p = rw (ne_eqb r.in_rate r.out_rate unequal, p)
 
-    not-on-it : s.primed ≡ true → (s.phase ≡ 0 → ⊥) → resampler_end ch r s ≡ []
+    not_on_it : s.primed ≡ true → (s.phase ≡ 0 → ⊥) → resampler_end ch r s ≡ []
     unfolding resampler_end held_last
-    not-on-it p z = rw (ne_eqb r.in_rate r.out_rate unequal, p, ne_eqb s.phase 0 z)
+    not_on_it p z = rw (ne_eqb r.in_rate r.out_rate unequal, p, ne_eqb s.phase 0 z)
 
-    on-it : s.primed ≡ true → s.phase ≡ 0 → resampler_end ch r s ≡ take ch s.last ∷ []
+    on_it : s.primed ≡ true → s.phase ≡ 0 → resampler_end ch r s ≡ take ch s.last ∷ []
     unfolding resampler_end held_last
-    on-it p z = rw (ne_eqb r.in_rate r.out_rate unequal, p, eq-eqb s.phase 0 z)
+    on_it p z = rw (ne_eqb r.in_rate r.out_rate unequal, p, eq-eqb s.phase 0 z)
 
 abbrev start : tie.After-put_frame-arg-1 → tie.Start
 start c = c.before.before.before.before.before.before.before.before.before
@@ -43,7 +43,7 @@ ends c =
     let p = z.before.before in
     let e = p.before.before in
     let a = (start c).args in
-    on-it a.channels a.r a.s c.if-r.false (not-false _ c.if-not-s.false) c.if-s-ne0.false
+    on_it a.channels a.r a.s c.if-r.false (not-false _ c.if-not-s.false) c.if-s-ne0.false
 
 room : (ch : ℕ) (fs : List Frame) (f : Frame) (n : ℕ) → fs ≡ f ∷ [] → length fs * (ch * 2) ≤ n → ch * 2 ≤ n
 room ch fs f n e h = omega (arith, ap (λ (l : List Frame). length l * (ch * 2)) e)
@@ -54,7 +54,7 @@ put_held_spec = tie.close (tie.spec
     (λ c. let e = c.before.before in let a = c.args in
     none_fronted _ a.out.now (not_held a.channels a.r a.s c.if-r.false (not-true _ c.if-not-s.true)))
     (λ c. let p = c.before.before in let e = p.before.before in let a = c.args in
-    none_fronted _ a.out.now (not-on-it a.channels a.r a.s c.if-r.false (not-false _ c.if-not-s.false) c.if-s-ne0.true))
+    none_fronted _ a.out.now (not_on_it a.channels a.r a.s c.if-r.false (not-false _ c.if-not-s.false) c.if-s-ne0.true))
     (λ c κs. let s = start c in (s.requires.0, room s.args.channels _ (take s.args.channels s.args.s.last) _ (ends c) s.requires.1))
     (λ c. search rules)
     (λ c. let m = c.before.before.before in let a = (start m).args in

@@ -8,7 +8,7 @@ use lib.ListN.{length}
 use Rattle.pcm.specs.declared.PcmFormat.{PcmFormat}
 use Rattle.stage.specs.declared.Stage.{Stage}
 use Rattle.turns.specs.Turns.{halves, Takes, TurnAsks, TurnDoes}
-use Rattle.turns.specs.laws.Playing.{biquad_turn_asks, biquad_turned, dc_turn_asks, dc_turned, gain_turn_asks, gain_turned, mono_turn_asks, mono_turned, resample-long, resample-turn-asks, resample-turned, stereo_long, stereo_turn_asks, stereo_turned}
+use Rattle.turns.specs.laws.Playing.{biquad_turn_asks, biquad_turned, dc_turn_asks, dc_turned, gain_turn_asks, gain_turned, mono_turn_asks, mono_turned, resample_long, resample_turn_asks, resample_turned, stereo_long, stereo_turn_asks, stereo_turned}
 use Rattle.end_turns.proofs.taken.Statement.{statement}
 use Rattle.end_turns.proofs.taken.Tie as tie
 
@@ -38,10 +38,10 @@ taken_spec = tie.close (tie.spec
     (mono_turn_asks s.args.format s.args.s (asks s.args.format s.args.s s.requires) c.in-StereoToMono.is).asks)
     (λ c. search rules) (λ c κs. search rules)
     (λ c κs. let m = c.before in let t = m.before in let s = start t.before in
-    (resample-turn-asks s.args.format s.args.s (asks s.args.format s.args.s s.requires) _ _ c.in-Resample.is c.held_samples-held.ensures.0 c.held_samples-held.ensures.1).asks)
+    (resample_turn_asks s.args.format s.args.s (asks s.args.format s.args.s s.requires) _ _ c.in-Resample.is c.held_samples-held.ensures.0 c.held_samples-held.ensures.1).asks)
     (λ c. search rules)
     (λ c. let d = c.before.before.before.before in let m = d.before.before in let t = m.before in let s = start t.before in
-    record { fits = omega (arith, resample-long s.args.format s.args.s (asks s.args.format s.args.s s.requires) _ _ c.in-Resample.is c.held_samples-held.ensures.0 c.held_samples-held.ensures.1 c.process-t.result _ (does c.process-t.ensures), s.well_formed) })
+    record { fits = omega (arith, resample_long s.args.format s.args.s (asks s.args.format s.args.s s.requires) _ _ c.in-Resample.is c.held_samples-held.ensures.0 c.held_samples-held.ensures.1 c.process-t.result _ (does c.process-t.ensures), s.well_formed) })
     (λ c. search rules)
     (λ c κs. let t = c.before in let s = start t.before in
     (dc_turn_asks s.args.format s.args.s (asks s.args.format s.args.s s.requires) _ c.in-DcBlock.is).asks)
@@ -59,7 +59,7 @@ taken_spec = tie.close (tie.spec
     (mono_turned s.args.format s.args.s (asks s.args.format s.args.s s.requires) _ c.in-StereoToMono.is (does c.stereo_to_mono.ensures)).does)
     (λ c. search rules)
     (λ c. let d = c.before.before.before.before in let m = d.before.before in let t = m.before in let s = start t.before in
-    (resample-turned s.args.format s.args.s (asks s.args.format s.args.s s.requires) _ _ c.in-Resample.is c.held_samples-held.ensures.0 c.held_samples-held.ensures.1 c.process-t.result _ (does c.process-t.ensures)).does)
+    (resample_turned s.args.format s.args.s (asks s.args.format s.args.s s.requires) _ _ c.in-Resample.is c.held_samples-held.ensures.0 c.held_samples-held.ensures.1 c.process-t.result _ (does c.process-t.ensures)).does)
     (λ c. search rules)
     (λ c. let d = c.before.before.before in let t = d.before.before in let s = start t.before in
     (dc_turned s.args.format s.args.s (asks s.args.format s.args.s s.requires) _ _ _ c.in-DcBlock.is (does c.process-t-in-DcBlock.ensures)).does)

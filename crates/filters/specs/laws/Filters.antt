@@ -71,18 +71,18 @@ module _ (tick : Taps → ℤ → Taps) where
       ap (λ (us : List Taps). memory_next tick (memory_of_taps (frame_next tick us f)) fs) (taps_of_memory ts) ∙ next_of_taps (frame_next tick ts f) fs
 
   -- the same of the outputs, by the memory
-  pub filtered-append_memory : (m : FilterMemory) (xs ys : List Frame)
+  pub filtered_append_memory : (m : FilterMemory) (xs ys : List Frame)
       → filtered tick (taps_of m) (xs ++ ys) ≡ filtered tick (taps_of m) xs ++ filtered tick (taps_of (memory_next tick m xs)) ys
-  filtered-append_memory m xs ys = filtered-append (taps_of m) xs ys ∙ ap (λ (ts : List Taps). filtered tick (taps_of m) xs ++ filtered tick ts ys) (sym (taps_of_next m xs))
+  filtered_append_memory m xs ys = filtered-append (taps_of m) xs ys ∙ ap (λ (ts : List Taps). filtered tick (taps_of m) xs ++ filtered tick ts ys) (sym (taps_of_next m xs))
 
   -- the count of a stream in two parts is that of the first and that of the second from the taps after the first
   pub filter_clipped-append : (ts : List Taps) (xs ys : List Frame) → filter_clipped tick ts (xs ++ ys) ≡ filter_clipped tick ts xs + filter_clipped tick (filter_next tick ts xs) ys
   filter_clipped-append ts [] ys = omega arith
   filter_clipped-append ts (x ∷ xs) ys = omega (arith, filter_clipped-append (frame_next tick ts x) xs ys)
 
-  pub filter_clipped-append_memory : (m : FilterMemory) (xs ys : List Frame)
+  pub filter_clipped_append_memory : (m : FilterMemory) (xs ys : List Frame)
       → filter_clipped tick (taps_of m) (xs ++ ys) ≡ filter_clipped tick (taps_of m) xs + filter_clipped tick (taps_of (memory_next tick m xs)) ys
-  filter_clipped-append_memory m xs ys = filter_clipped-append (taps_of m) xs ys ∙ ap (λ (ts : List Taps). filter_clipped tick (taps_of m) xs + filter_clipped tick ts ys) (sym (taps_of_next m xs))
+  filter_clipped_append_memory m xs ys = filter_clipped-append (taps_of m) xs ys ∙ ap (λ (ts : List Taps). filter_clipped tick (taps_of m) xs + filter_clipped tick ts ys) (sym (taps_of_next m xs))
 
   -- at most the samples
   frame_clipped_le : (ts : List Taps) (f : Frame) → frame_clipped tick ts f ≤ length f
@@ -173,12 +173,12 @@ module _ {tick : Taps → ℤ → Taps} {ts₀ : List Taps} {input out₀ : List
 
   module _ (room : length input ≤ length out₀) {out out' : List ℕ} {c i : ℕ} (more : i < length input) where
     -- a frame of one channel
-    pub filtering-mono : {t t' : Taps} {ts : List Taps} {y : ℤ} {n : ℕ}
+    pub filtering_mono : {t t' : Taps} {ts : List Taps} {y : ℤ} {n : ℕ}
         → length input % 2 ≡ 0 → Filtering tick 1 ts₀ input out₀ (t ∷ ts) out c i
         → t' ≡ tick t (sample_at input i) → out' ≡ stored out i y → y ≡ rounded16 t'.y1 → n ≡ one (clipped t'.y1)
         → Filtering tick 1 ts₀ input out₀ (t' ∷ ts) out' (c + n) (i + 2)
     unfolding sample_at
-    filtering-mono {t} {t'} {ts} {y} {n} w r e p q z =
+    filtering_mono {t} {t'} {ts} {y} {n} w r e p q z =
         let m : i % 2 ≡ 0 = r.whole in
         let k : i + 2 ≤ length input = omega arith in
         subst (λ (u : Taps). Filtering tick 1 ts₀ input out₀ (u ∷ ts) out' (c + n) (i + 2)) (sym e)
@@ -188,14 +188,14 @@ module _ {tick : Taps → ℤ → Taps} {ts₀ : List Taps} {input out₀ : List
         (omega (arith, z ∙ ap (λ (u : Taps). one (clipped u.y1)) e)))
 
     -- a frame of two channels
-    pub filtering-stereo : {l l' r r' : Taps} {ts : List Taps} {mid : List ℕ} {y y' : ℤ} {n n' : ℕ}
+    pub filtering_stereo : {l l' r r' : Taps} {ts : List Taps} {mid : List ℕ} {y y' : ℤ} {n n' : ℕ}
         → length input % 4 ≡ 0 → Filtering tick 2 ts₀ input out₀ (l ∷ r ∷ ts) out c i
         → l' ≡ tick l (sample_at input i) → r' ≡ tick r (sample_at input (i + 2))
         → mid ≡ stored out i y → y ≡ rounded16 l'.y1 → out' ≡ stored mid (i + 2) y' → y' ≡ rounded16 r'.y1
         → n ≡ one (clipped l'.y1) → n' ≡ one (clipped r'.y1)
         → Filtering tick 2 ts₀ input out₀ (l' ∷ r' ∷ ts) out' (c + (n + n')) (i + 4)
     unfolding sample_at
-    filtering-stereo {l} {l'} {r} {r'} {ts} {mid} {y} {y'} {n} {n'} w s el er p q p' q' z z' =
+    filtering_stereo {l} {l'} {r} {r'} {ts} {mid} {y} {y'} {n} {n'} w s el er p q p' q' z z' =
         let m : i % 4 ≡ 0 = s.whole in
         let k : i + 4 ≤ length input = omega arith in
         let i₄ : i + 2 + 2 ≡ i + 4 = omega arith in

@@ -12,7 +12,7 @@ use Rattle.stage.specs.laws.Places.{no_stage}
 use Rattle.pcm.specs.laws.Lists.{unmapped}
 use Rattle.block.specs.laws.Reaching.{Sized, shorter_a, shorter_b}
 use Rattle.end_turns.specs.declared.EndApplied.{EndApplied}
-use Rattle.finish.proofs.Reaching.{EndReached, begun, served, sum_fits, next-reached, sized-out, ended_size, ended_clipped, ended_halves_lem}
+use Rattle.finish.proofs.Reaching.{EndReached, begun, served, sum_fits, next_reached, sized_out, ended_size, ended_clipped, ended_halves_lem}
 use Rattle.finish.proofs.end_stages.Statement.{statement}
 use Rattle.finish.proofs.end_stages.Tie as tie
 
@@ -60,11 +60,11 @@ module _ (c : tie.After-format_after-format invariant-loop decreases-loop) where
   after = record { a = turned.turn-t.new.a; b = turned.turn-t.new.b }
 
   sized : Sized (record { a = l.loop-i.a; b = l.loop-i.b }) after
-  sized = let v = l.loop-i.invariant in sized-out _ _ _ _ _ _ _ _ _ _ no_stage v.5 (more turned) v.2 v.1 (room_a l) (room_b l) _ _ _ _ turned.turn-t.ensures c.format_after-format.ensures
+  sized = let v = l.loop-i.invariant in sized_out _ _ _ _ _ _ _ _ _ _ no_stage v.5 (more turned) v.2 v.1 (room_a l) (room_b l) _ _ _ _ turned.turn-t.ensures c.format_after-format.ensures
 
   reached : EndReached (start l).args.chain.stages (start l).args.chain.count (start l).args.chain.format (record { a = (start l).args.a.now; b = (start l).args.b.now })
       (shorter (start l).args.a.now (start l).args.b.now) c.format_after-format.result turned.turn-t.result.len (l.loop-i.i + 1) after (l.loop-i.clipped + turned.turn-t.result.clipped)
-  reached = let v = l.loop-i.invariant in next-reached _ _ _ _ _ _ _ _ _ _ no_stage v.5 (more turned) v.2 v.1 (room_a l) (room_b l) _ _ _ _ turned.turn-t.ensures c.format_after-format.ensures
+  reached = let v = l.loop-i.invariant in next_reached _ _ _ _ _ _ _ _ _ _ no_stage v.5 (more turned) v.2 v.1 (room_a l) (room_b l) _ _ _ _ turned.turn-t.ensures c.format_after-format.ensures
 
 pub end_stages_spec : {M : Type 1} → statement M
 end_stages_spec =

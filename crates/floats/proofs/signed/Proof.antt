@@ -28,8 +28,8 @@ module _ (k b : ℕ) (small : k ≤ 33554432) (word : b < 4294967296) where
 
   -- what is worked out, and that it fits on the way
   record Signed (s : ℕ) (r : ℤ) : Type 0 where
-    twice-fits : SFits w32 (twice s)
-    factor-fits : SFits w32 (factor s)
+    twice_fits : SFits w32 (twice s)
+    factor_fits : SFits w32 (factor s)
     product_is : product s ≡ r
 
   k_is : to_z w32 k ≡ pos k
@@ -44,10 +44,10 @@ module _ (k b : ℕ) (small : k ≤ 33554432) (word : b < 4294967296) where
       go : (b < 2147483648) ⊎ (2147483648 ≤ b) → Signed (b / 2147483648) (cond (leb 2147483648 b) (neg_ℤ (pos k)) (pos k))
       go (inl l) =
           let z : b / 2147483648 ≡ 0 = omega arith in
-          rw (z, lt-leb 2147483648 b l) (record { twice-fits = sfits_lit tt; factor-fits = sfits_lit tt; product_is = ap (λ (x : ℤ). x *ℤ pos 1) k_is ∙ ap pos (negated k) })
+          rw (z, lt-leb 2147483648 b l) (record { twice_fits = sfits_lit tt; factor_fits = sfits_lit tt; product_is = ap (λ (x : ℤ). x *ℤ pos 1) k_is ∙ ap pos (negated k) })
       go (inr l) =
           let o : b / 2147483648 ≡ 1 = omega arith in
-          rw (o, le-leb 2147483648 b l) (record { twice-fits = sfits_lit tt; factor-fits = sfits_lit tt; product_is = ap (λ (x : ℤ). x *ℤ negsuc 0) k_is ∙ ap (λ (n : ℕ). neg_ℤ (pos n)) (negated k) })
+          rw (o, le-leb 2147483648 b l) (record { twice_fits = sfits_lit tt; factor_fits = sfits_lit tt; product_is = ap (λ (x : ℤ). x *ℤ negsuc 0) k_is ∙ ap (λ (n : ℕ). neg_ℤ (pos n)) (negated k) })
 
   value_fits : SFits w32 (cond (leb 2147483648 b) (neg_ℤ (pos k)) (pos k))
   value_fits = go (leb 2147483648 b)
@@ -64,7 +64,7 @@ module _ (k b : ℕ) (small : k ≤ 33554432) (word : b < 4294967296) where
 
 pub signed_spec : {M : Type 1} → statement M
 signed_spec = tie.close (tie.spec (λ c. search rules) (λ c. search rules)
-    (λ c. (by_sign c.args.k c.args.b c.requires c.ranges.b.fits).twice-fits)
-    (λ c. (by_sign c.args.k c.args.b c.requires c.ranges.b.fits).factor-fits)
+    (λ c. (by_sign c.args.k c.args.b c.requires c.ranges.b.fits).twice_fits)
+    (λ c. (by_sign c.args.k c.args.b c.requires c.ranges.b.fits).factor_fits)
     (λ c. product_fits c.args.k c.args.b c.requires c.ranges.b.fits)
     (λ c. value c.args.k c.args.b c.requires c.ranges.b.fits))

@@ -10,7 +10,7 @@ use Rattle.pcm.specs.laws.Integers.{read_back}
 use Rattle.pcm.specs.Samples.{decode, outside}
 use Rattle.pcm.specs.laws.Samples.{length_decode}
 use Rattle.counting.specs.Counting.{count_of}
-use Rattle.counting.specs.laws.Loops.{Counting, counting_start, counting-part, counting-fits, counting-end, Span, span, part_length, decode_part, decode_past}
+use Rattle.counting.specs.laws.Loops.{Counting, counting_start, counting_part, counting_fits, counting_end, Span, span, part_length, decode_part, decode_past}
 use Rattle.gain.proofs.count_outside.Statement.{statement}
 use Rattle.gain.proofs.count_outside.Tie as tie
 
@@ -36,12 +36,12 @@ loop-again c =
     let at = loop.loop-at.at in
     let to = at + least.least.result in
     let e = ends least in
-    counting-part loop.loop-at.invariant (decode (take (to - at) (drop at s))) e.inside e.even (decode_part s at to e.after e.inside e.whole) c.span_outside.ensures
+    counting_part loop.loop-at.invariant (decode (take (to - at) (drop at s))) e.inside e.even (decode_part s at to e.after e.inside e.whole) c.span_outside.ensures
 
 returns : tie.Need-returns invariant-loop decreases-loop
 returns c =
     let s = c.before.before.before in
-    counting-end c.before.loop-at.invariant (decode_past s.args.s.now c.before.loop-at.at (omega arith))
+    counting_end c.before.loop-at.invariant (decode_past s.args.s.now c.before.loop-at.at (omega arith))
     ∙ ap₂ (λ lo hi. count_of (outside lo hi) (decode s.args.s.now)) (read_back s.ranges.lo) (read_back s.ranges.hi)
 
 pub count_outside_spec : {M : Type 1} → statement M
@@ -55,7 +55,7 @@ count_outside_spec = tie.close (tie.spec invariant-loop decreases-loop
     (λ c. omega arith)
     span-outside-requires
     (λ c. search rules)
-    (λ c. record { fits = omega (arith, counting-fits (loop-again c), length_decode c.before.before.before.before.before.before.args.s.now) })
+    (λ c. record { fits = omega (arith, counting_fits (loop-again c), length_decode c.before.before.before.before.before.before.args.s.now) })
     (λ c. omega arith)
     loop-again
     returns)

@@ -9,7 +9,7 @@ use mir.Facts.{to_z-of_z}
 use Rattle.pcm.specs.laws.Integers.{answered}
 use Rattle.pcm.specs.Frames.{written}
 use Rattle.gain.specs.Gain.{scaled_bytes}
-use Rattle.gain.proofs.Blocks.{Scaling, scaling_start, scaling-next, scaling-end}
+use Rattle.gain.proofs.Blocks.{Scaling, scaling_start, scaling_next, scaling_end}
 use Rattle.gain.proofs.gain_samples.Statement.{statement}
 use Rattle.gain.proofs.gain_samples.Tie as tie
 
@@ -26,13 +26,13 @@ loop-again c =
     let get = scale.before in
     let loop = get.before.before.before in
     let s = loop.before.before.before in
-    scaling-next _ _ _ s.requires.0 s.requires.1 loop.loop-i.invariant (omega arith)
+    scaling_next _ _ _ s.requires.0 s.requires.1 loop.loop-i.invariant (omega arith)
     (answered w16 get.get_i16.type_inv get.get_i16.ensures) (answered w16 scale.scale.type_inv scale.scale.ensures) put.put_i16.ensures
 
 returns : tie.Need-returns invariant-loop decreases-loop
 returns c =
     let s = c.before.before.before.before in
-    scaling-end _ _ _ s.requires.0 s.requires.1 c.before.loop-i.invariant (omega arith)
+    scaling_end _ _ _ s.requires.0 s.requires.1 c.before.loop-i.invariant (omega arith)
     ∙ ap (λ z. written (scaled_bytes z s.args.input.now) s.args.out.now) (to_z-of_z s.ranges.q)
 
 pub gain_samples_spec : {M : Type 1} → statement M

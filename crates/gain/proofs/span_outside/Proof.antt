@@ -12,7 +12,7 @@ use Rattle.pcm.specs.Samples.{decode, outside}
 use Rattle.pcm.specs.laws.Samples.{length_decode}
 use Rattle.counting.specs.Counting.{one, count_of}
 use Rattle.counting.specs.laws.Counting.{one_le}
-use Rattle.counting.specs.laws.Loops.{Counting, counting_start, counting-next, counting-fits, counting-end, decode_next, decode_past}
+use Rattle.counting.specs.laws.Loops.{Counting, counting_start, counting_next, counting_fits, counting_end, decode_next, decode_past}
 use Rattle.gain.proofs.span_outside.Statement.{statement}
 use Rattle.gain.proofs.span_outside.Tie as tie
 
@@ -30,13 +30,13 @@ loop-again c =
     let s = loop.before.before in
     let even = loop.loop-i.invariant.even in
     let x = answered w16 get.get_i16.type_inv get.get_i16.ensures in
-    counting-next loop.loop-i.invariant s.requires.0 (omega arith)
+    counting_next loop.loop-i.invariant s.requires.0 (omega arith)
     (decode_next s.args.s.now loop.loop-i.i (omega arith) ∙ ap (λ z. z ∷ decode (drop (loop.loop-i.i + 2) s.args.s.now)) (sym x)) (c.one.ensures ∙ ap one asked.outside.ensures)
 
 returns : tie.Need-returns invariant-loop decreases-loop
 returns c =
     let s = c.before.before.before in
-    counting-end c.before.loop-i.invariant (decode_past s.args.s.now c.before.loop-i.i (omega arith))
+    counting_end c.before.loop-i.invariant (decode_past s.args.s.now c.before.loop-i.i (omega arith))
     ∙ ap₂ (λ lo hi. count_of (outside lo hi) (decode s.args.s.now)) (read_back s.ranges.lo) (read_back s.ranges.hi)
 
 pub span_outside_spec : {M : Type 1} → statement M
@@ -46,7 +46,7 @@ span_outside_spec = tie.close (tie.spec invariant-loop decreases-loop
     (λ c κs. search rules)
     (λ c κs. search rules)
     (λ c. omega (arith, c.one.ensures, one_le c.before.outside.result))
-    (λ c. record { fits = omega (arith, counting-fits (loop-again c), length_decode c.before.before.before.before.before.before.args.s.now) })
+    (λ c. record { fits = omega (arith, counting_fits (loop-again c), length_decode c.before.before.before.before.before.before.args.s.now) })
     (λ c. omega arith)
     (λ c. omega arith)
     loop-again

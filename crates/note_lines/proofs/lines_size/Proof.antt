@@ -8,7 +8,7 @@ use native.Mathlib.Omega.{arith}
 use lib.ListN.{length, drop, length-append}
 use Rattle.recipe.specs.Records.{of_note, length_at, kind_at}
 use Rattle.note_lines.specs.laws.Lines.{line_here, line_size, lines_fit}
-use Rattle.note_lines.proofs.Walk.{Walked, walked_start, walked_end, walked_next, next-whole, next-within, next_four, kind-there, line-room}
+use Rattle.note_lines.proofs.Walk.{Walked, walked_start, walked_end, walked_next, next_whole, next_within, next_four, kind_there, line_room}
 use Rattle.note_lines.proofs.lines_size.Statement.{statement}
 use Rattle.note_lines.proofs.lines_size.Tie as tie
 
@@ -25,7 +25,7 @@ abbrev left_of : tie.In-loop-at invariant-loop decreases-loop → List ℕ
 left_of i = drop i.loop-at.at (bytes_of i.before)
 
 there : (i : tie.In-loop-at invariant-loop decreases-loop) → i.loop-at.at + (2 + length_at (left_of i)) ≤ length (bytes_of i.before)
-there i = next-within i.loop-at.invariant.1 i.loop-at-test.true
+there i = next_within i.loop-at.invariant.1 i.loop-at-test.true
 
 four : (i : tie.In-loop-at invariant-loop decreases-loop) → i.loop-at.at + 4 ≤ length (bytes_of i.before)
 four i = next_four i.loop-at.invariant.1 i.loop-at-test.true
@@ -36,15 +36,15 @@ sized c =
     let i = c.before.before.before in
     let w = c.loop-at.invariant.1 in
     c.line_size-size.ensures
-    ∙ ap₂ (λ (k n : ℕ). cond (of_note k) (1 + 2 * n) 0) (c.get_u16.ensures ∙ kind-there w c.loop-at-test.true) c.get_u16-length.ensures
-    ∙ sym (line_size (left_of i) (next-whole w c.loop-at-test.true))
+    ∙ ap₂ (λ (k n : ℕ). cond (of_note k) (1 + 2 * n) 0) (c.get_u16.ensures ∙ kind_there w c.loop-at-test.true) c.get_u16-length.ensures
+    ∙ sym (line_size (left_of i) (next_whole w c.loop-at-test.true))
 
 room : (c : tie.After-line_size-size invariant-loop decreases-loop) → c.loop-at.size + c.line_size-size.result ≤ 2097152
 room c =
     let i = c.before.before.before in
     let l = i.before in
     let s = l.before.before in
-    omega (arith, sized c, line-room c.loop-at.invariant.1 c.loop-at-test.true, lines_fit (bytes_of l) c.requires.0, c.requires.1, c.loop-at.invariant.2)
+    omega (arith, sized c, line_room c.loop-at.invariant.1 c.loop-at-test.true, lines_fit (bytes_of l) c.requires.0, c.requires.1, c.loop-at.invariant.2)
 
 loop-again : tie.Need-loop-at-preserved invariant-loop decreases-loop
 loop-again c =

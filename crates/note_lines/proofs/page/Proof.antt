@@ -21,8 +21,8 @@ abbrev start : tie.After-desk_question-verdict → tie.Start
 start c = c.before.before.before.before.before.before
 
 -- the questions' verdict, and the page that goes by it
-abbrev pageBytes : tie.Start → List ℕ
-pageBytes s = page_of s.args.rate.now s.args.channels.now s.args.recipe.now
+abbrev page_bytes : tie.Start → List ℕ
+page_bytes s = page_of s.args.rate.now s.args.channels.now s.args.recipe.now
 
 verdict_is : (c : tie.After-desk_question-verdict) → c.desk_question-verdict.result ≡ desk_verdict (format_of (start c).args.rate.now (start c).args.channels.now) (start c).args.recipe.now
 verdict_is c = c.desk_question-verdict.ensures ∙ ap (λ (f : PcmFormat). desk_verdict f (start c).args.recipe.now) c.format-format.ensures
@@ -30,15 +30,15 @@ verdict_is c = c.desk_question-verdict.ensures ∙ ap (λ (f : PcmFormat). desk_
 readable : (c : tie.After-desk_question-verdict) → Readable c.desk_question-verdict.result (start c).args.recipe.now
 readable c = desk_readable _ _ _ (verdict_is c)
 
-page-is : (c : tie.After-desk_question-verdict) → printed c.desk_question-verdict.result (start c).args.recipe.now ≡ pageBytes (start c)
+page_is : (c : tie.After-desk_question-verdict) → printed c.desk_question-verdict.result (start c).args.recipe.now ≡ page_bytes (start c)
 unfolding page_of
-page-is c = ap (λ (v : Verdict). printed v (start c).args.recipe.now) (verdict_is c)
+page_is c = ap (λ (v : Verdict). printed v (start c).args.recipe.now) (verdict_is c)
 
-sized : (c : tie.After-page_size-needed) → c.page_size-needed.result ≡ length (pageBytes (start c.before))
-sized c = c.page_size-needed.ensures ∙ ap length (page-is c.before)
+sized : (c : tie.After-page_size-needed) → c.page_size-needed.result ≡ length (page_bytes (start c.before))
+sized c = c.page_size-needed.ensures ∙ ap length (page_is c.before)
 
 -- where room was asked: the verdict is what `require_room` answered
-asked : (c : tie.After-require_room-room) → let s = start c.before.before in room_verdict (length (pageBytes s)) (length s.args.out.now) ≡ c.require_room-room.result
+asked : (c : tie.After-require_room-room) → let s = start c.before.before in room_verdict (length (page_bytes s)) (length s.args.out.now) ≡ c.require_room-room.result
 asked c = let s = start c.before.before in ap (λ (n : ℕ). room_verdict n (length s.args.out.now)) (sym (sized c.before)) ∙ sym c.require_room-room.ensures
 
 returns : tie.Need-returns-in-Refused
@@ -46,14 +46,14 @@ unfolding page_call
 returns c =
     let q = c.before in
     let s = start q.before.before in
-    concluded (room_verdict (length (pageBytes s)) (length s.args.out.now)) (pageBytes s) s.args.out.now _ _ (Refused _) (asked q ∙ c.in-Refused.is) refl
+    concluded (room_verdict (length (page_bytes s)) (length s.args.out.now)) (page_bytes s) s.args.out.now _ _ (Refused _) (asked q ∙ c.in-Refused.is) refl
 
 write-page-requires : tie.Need-write_page-requires
 write-page-requires c κs =
     let t = c.before in
     let q = t.before in
     let d = q.before.before in
-    (readable d, rw (page-is d) (room_enough _ _ (asked q ∙ c.in_default.is)))
+    (readable d, rw (page_is d) (room_enough _ _ (asked q ∙ c.in_default.is)))
 
 returns-2 : tie.Need-returns
 unfolding page_call
@@ -63,8 +63,8 @@ returns-2 c =
     let q = t.before in
     let d = q.before.before in
     let s = start d in
-    wrote (room_verdict (length (pageBytes s)) (length s.args.out.now)) (pageBytes s) s.args.out.now _ _ (sized q.before)
-    (c.write_page.ensures ∙ ap (λ (l : List ℕ). written l s.args.out.now) (page-is d)) (asked q ∙ c.in_default.is)
+    wrote (room_verdict (length (page_bytes s)) (length s.args.out.now)) (page_bytes s) s.args.out.now _ _ (sized q.before)
+    (c.write_page.ensures ∙ ap (λ (l : List ℕ). written l s.args.out.now) (page_is d)) (asked q ∙ c.in_default.is)
 
 pub page_spec : {M : Type 1} → statement M
 page_spec = tie.close (tie.spec

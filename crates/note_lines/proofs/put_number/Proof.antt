@@ -21,39 +21,39 @@ two : (c : tie.Else-number-lt10) → number_line c.args.number ≡ digit (c.args
 unfolding number_line
 two c = rw (le-ltb _ 10 c.if-number-lt10.false)
 
-room-one : (c : tie.Then-number-lt10) → 2 ≤ length c.args.out.now
-room-one c = omega (arith, c.requires.1, ap length (one c))
+room_one : (c : tie.Then-number-lt10) → 2 ≤ length c.args.out.now
+room_one c = omega (arith, c.requires.1, ap length (one c))
 
-room-two : (c : tie.Else-number-lt10) → 3 ≤ length c.args.out.now
-room-two c = omega (arith, c.requires.1, ap length (two c))
+room_two : (c : tie.Else-number-lt10) → 3 ≤ length c.args.out.now
+room_two c = omega (arith, c.requires.1, ap length (two c))
 
 returns : tie.Need-returns-then-number-lt10
 returns c =
     let t = c.before in
     let a = c.args in
-    rw c.digit.ensures (front_run (digit a.number ∷ 0x0a ∷ []) a.out.now (room-one t) ∙ ap (λ (l : List ℕ). written l a.out.now) (sym (one t)))
+    rw c.digit.ensures (front_run (digit a.number ∷ 0x0a ∷ []) a.out.now (room_one t) ∙ ap (λ (l : List ℕ). written l a.out.now) (sym (one t)))
 
 returns-2 : tie.Need-returns
 returns-2 c =
     let t = c.before.before in
     let a = c.args in
     rw (c.digit-2.ensures, c.digit-3.ensures)
-    (front_run (digit (a.number / 10) ∷ digit (a.number % 10) ∷ 0x0a ∷ []) a.out.now (room-two t) ∙ ap (λ (l : List ℕ). written l a.out.now) (sym (two t)))
+    (front_run (digit (a.number / 10) ∷ digit (a.number % 10) ∷ 0x0a ∷ []) a.out.now (room_two t) ∙ ap (λ (l : List ℕ). written l a.out.now) (sym (two t)))
 
 pub put_number_spec : {M : Type 1} → statement M
 put_number_spec = tie.close (tie.spec
     (λ c. search rules)
     (λ c κs. search rules)
-    (λ c. omega (arith, room-one c.before))
-    (λ c. rw length-set (omega (arith, room-one c.before)))
+    (λ c. omega (arith, room_one c.before))
+    (λ c. rw length-set (omega (arith, room_one c.before)))
     (λ c. search rules)
     returns
     (λ c. omega (arith, c.requires.0))
     (λ c κs. omega (arith, c.requires.0))
-    (λ c. omega (arith, room-two c.before))
+    (λ c. omega (arith, room_two c.before))
     (λ c. omega arith)
     (λ c κs. omega arith)
-    (λ c. rw length-set (omega (arith, room-two c.before.before)))
-    (λ c. rw (length-set, length-set) (omega (arith, room-two c.before.before)))
+    (λ c. rw length-set (omega (arith, room_two c.before.before)))
+    (λ c. rw (length-set, length-set) (omega (arith, room_two c.before.before)))
     (λ c. search rules)
     returns-2)

@@ -23,8 +23,8 @@ room c =
     let h = rw (note c) at c.requires in
     omega (arith, h, length_line (record { kind = c.args.kind; text = c.args.text.now }))
 
-out-fits : (s : tie.Start) → length s.args.out.now < 2 ^ 64
-out-fits s = omega arith
+out_fits : (s : tie.Start) → length s.args.out.now < 2 ^ 64
+out_fits s = omega arith
 
 returns : tie.Need-returns-then-not-of_note
 returns c = rw (none c) (refl, refl)
@@ -42,6 +42,6 @@ put_record_spec = tie.close (tie.spec
     returns
     (λ c κs. room c.before)
     (λ c. search rules)
-    (λ c. let e = c.before.before.before.before in omega (arith, room e, out-fits e.before.before.before.before))
+    (λ c. let e = c.before.before.before.before in omega (arith, room e, out_fits e.before.before.before.before))
     (λ c. search rules)
     returns-2)

@@ -11,7 +11,7 @@ use Rattle.recipe.specs.Records.{length_at, kind_at}
 use Rattle.recipe.specs.Notes.{note_at}
 use Rattle.note_lines.specs.Lines.{lines_of}
 use Rattle.note_lines.specs.laws.Lines.{line_if, line_here}
-use Rattle.note_lines.proofs.Walk.{Walked, walked_start, walked_end, walked_next, next-whole, next-within, next_four, kind-there, text-there, line-room}
+use Rattle.note_lines.proofs.Walk.{Walked, walked_start, walked_end, walked_next, next_whole, next_within, next_four, kind_there, text_there, line_room}
 use Rattle.note_lines.proofs.write_lines.Statement.{statement}
 use Rattle.note_lines.proofs.write_lines.Tie as tie
 
@@ -37,13 +37,13 @@ room_fits : (s : tie.Start invariant-loop decreases-loop) → length s.args.out.
 room_fits s = omega arith
 
 there : (i : tie.In-loop-at invariant-loop decreases-loop) → i.loop-at.at + (2 + length_at (left_of i)) ≤ length (bytes_of i.before)
-there i = next-within i.loop-at.invariant.1 i.loop-at-test.true
+there i = next_within i.loop-at.invariant.1 i.loop-at-test.true
 
 four : (i : tie.In-loop-at invariant-loop decreases-loop) → i.loop-at.at + 4 ≤ length (bytes_of i.before)
 four i = next_four i.loop-at.invariant.1 i.loop-at-test.true
 
 two : (i : tie.In-loop-at invariant-loop decreases-loop) → 2 ≤ length_at (left_of i)
-two i = (next-whole i.loop-at.invariant.1 i.loop-at-test.true).two
+two i = (next_whole i.loop-at.invariant.1 i.loop-at-test.true).two
 
 kept : (l : tie.At-loop-at invariant-loop decreases-loop) → length l.loop-at.out ≡ length (entry l).args.out.now
 kept l = ap length l.loop-at.invariant.3 ∙ length-sets (entry l).args.out.now 0 l.loop-at.invariant.0
@@ -52,20 +52,20 @@ kept l = ap length l.loop-at.invariant.3 ∙ length-sets (entry l).args.out.now 
 room : (i : tie.In-loop-at invariant-loop decreases-loop) → i.loop-at.to + length (line_here (left_of i)) ≤ length (entry i.before).args.out.now
 room i =
     let l = i.before in
-    omega (arith, line-room i.loop-at.invariant.1 i.loop-at-test.true, (entry l).requires.1, i.loop-at.invariant.2)
+    omega (arith, line_room i.loop-at.invariant.1 i.loop-at-test.true, (entry l).requires.1, i.loop-at.invariant.2)
 
 -- the length, the kind and the bytes after it that were read
 length_is : (c : tie.After-get_u16-kind invariant-loop decreases-loop) → c.get_u16.result ≡ length_at (left_of c.before.before)
 length_is c = c.get_u16.ensures
 
-line-is : (c : tie.After-get_u16-kind invariant-loop decreases-loop)
+line_is : (c : tie.After-get_u16-kind invariant-loop decreases-loop)
     → line_if c.get_u16-kind.result
     (take (c.loop-at.at + (2 + c.get_u16.result) - (c.loop-at.at + 4)) (drop (c.loop-at.at + 4) (bytes_of c.before.before.before)))
     ≡ line_here (left_of c.before.before)
-line-is c =
+line_is c =
     let i = c.before.before in
     let w = c.loop-at.invariant.1 in
-    ap₂ line_if (c.get_u16-kind.ensures ∙ kind-there w c.loop-at-test.true) (rw (length_is c) (text-there w c.loop-at-test.true))
+    ap₂ line_if (c.get_u16-kind.ensures ∙ kind_there w c.loop-at-test.true) (rw (length_is c) (text_there w c.loop-at-test.true))
 
 returns : tie.Need-returns invariant-loop decreases-loop
 returns c =
@@ -85,9 +85,9 @@ loop-again c =
     let out = (entry l).args.out.now in
     let e : c.loop-at.to ≡ 0 + length done = omega (arith, c.loop-at.invariant.2) in
     let stored = c.put_record-to.ensures.1
-    ∙ ap₂ (λ (o x : List ℕ). sets o c.loop-at.to x) c.loop-at.invariant.3 (line-is g)
+    ∙ ap₂ (λ (o x : List ℕ). sets o c.loop-at.to x) c.loop-at.invariant.3 (line_is g)
     ∙ ap (λ (k : ℕ). sets (sets out 0 done) k line) e ∙ sym (sets_append done line out 0) in
-    let size = ap₂ ◌+◌ c.loop-at.invariant.2 (c.put_record-to.ensures.0 ∙ ap length (line-is g)) ∙ sym (length-append done line) in
+    let size = ap₂ ◌+◌ c.loop-at.invariant.2 (c.put_record-to.ensures.0 ∙ ap length (line_is g)) ∙ sym (length-append done line) in
     rw (length_is g) (done ++ line, walked_next c.loop-at.invariant.1 c.loop-at-test.true, size, stored)
 
 pub write_lines_spec : {M : Type 1} → statement M
@@ -103,8 +103,8 @@ write_lines_spec = tie.close (tie.spec invariant-loop decreases-loop
     (λ c. omega (arith, two c.before.before, length_is c))
     (λ c. omega (arith, two c.before.before, length_is c))
     (λ c. omega (arith, there c.before.before, length_is c))
-    (λ c κs. let g = c.before.before in let i = g.before.before in omega (arith, room i, kept i.before, ap length (line-is g)))
-    (λ c. let p = c.before.before in let g = p.before.before.before in let i = g.before.before in omega (arith, room i, c.put_record-to.ensures.0, ap length (line-is g), room_fits (entry i.before)))
+    (λ c κs. let g = c.before.before in let i = g.before.before in omega (arith, room i, kept i.before, ap length (line_is g)))
+    (λ c. let p = c.before.before in let g = p.before.before.before in let i = g.before.before in omega (arith, room i, c.put_record-to.ensures.0, ap length (line_is g), room_fits (entry i.before)))
     (λ c. let g = c.before.before.before.before.before in let i = g.before.before in omega (arith, there i, length_is g, c.loop-at-test.true))
     loop-again
     (λ c. kept c.before)

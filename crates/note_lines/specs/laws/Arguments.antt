@@ -27,23 +27,23 @@ module _ (most v : ℕ) where
   field_end h = rw (le-leb v most h)
 
   module _ (b : ℕ) (text : List ℕ) where
-    pub field-low : b < 0x30 → 0 ≡ field_after most v (b ∷ text)
+    pub field_low : b < 0x30 → 0 ≡ field_after most v (b ∷ text)
     unfolding field_after
-    field-low h = rw (lt-leb 0x30 b h)
+    field_low h = rw (lt-leb 0x30 b h)
 
     module _ (l : 0x30 ≤ b) where
-      pub field-high : 0x39 < b → 0 ≡ field_after most v (b ∷ text)
+      pub field_high : 0x39 < b → 0 ≡ field_after most v (b ∷ text)
       unfolding field_after
-      field-high h = rw (le-leb 0x30 b l, lt-leb b 0x39 h)
+      field_high h = rw (le-leb 0x30 b l, lt-leb b 0x39 h)
 
       module _ (h : b ≤ 0x39) where
         pub field_next : field_after most v (b ∷ text) ≡ field_after most (10 * v + (b - 0x30)) text
         unfolding field_after value_after
         field_next = rw (le-leb 0x30 b l, le-leb b 0x39 h)
 
-        pub field-over : most < 10 * v + (b - 0x30) → 0 ≡ field_after most v (b ∷ text)
+        pub field_over : most < 10 * v + (b - 0x30) → 0 ≡ field_after most v (b ∷ text)
         unfolding field_after value_after
-        field-over k = rw (le-leb 0x30 b l, le-leb b 0x39 h, lt-leb (value_after (10 * v + (b - 0x30)) text) most (omega (arith, value_grows (10 * v + (b - 0x30)) text))) (by_digits (all_digits text))
+        field_over k = rw (le-leb 0x30 b l, le-leb b 0x39 h, lt-leb (value_after (10 * v + (b - 0x30)) text) most (omega (arith, value_grows (10 * v + (b - 0x30)) text))) (by_digits (all_digits text))
           where
             by_digits : (t : Bool) → 0 ≡ cond (t && false) (value_after (10 * v + (b - 0x30)) text) 0
             by_digits true = refl

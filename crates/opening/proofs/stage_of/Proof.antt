@@ -23,8 +23,8 @@ among c = lt-ltb 0 (8 - c.args.before) (omega arith)
 is_within : (c : tie.Else-not-within) → settings_allowed c.args.found ≡ true
 is_within c = sym (within c.before.before.before) ∙ c.if-not-within.false
 
-is-suited : (c : tie.Else-not-suited) → record_suits c.args.format c.args.found ≡ true
-is-suited c = sym (suited c.before.before.before) ∙ c.if-not-suited.false
+is_suited : (c : tie.Else-not-suited) → record_suits c.args.format c.args.found ≡ true
+is_suited c = sym (suited c.before.before.before) ∙ c.if-not-suited.false
 
 returns : tie.Need-returns-then-before-ge8
 unfolding stage_verdict
@@ -40,7 +40,7 @@ returns-3 c = rw (among c.before.before, is_within c.before, sym (suited c.befor
 
 returns-4 : tie.Need-returns
 unfolding stage_verdict
-returns-4 c = rw (among c.before.before.before, is_within c.before.before, is-suited c.before) c.stage_kind.ensures
+returns-4 c = rw (among c.before.before.before, is_within c.before.before, is_suited c.before) c.stage_kind.ensures
 
 pub stage_of_spec : {M : Type 1} → statement M
 stage_of_spec = tie.close (tie.spec (λ c κs. search rules) (λ c κs. search rules) returns returns-2 returns-3

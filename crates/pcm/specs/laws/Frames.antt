@@ -118,15 +118,15 @@ module _ (ch : ℕ) (bytes : List ℕ) (whole : length bytes % (ch * 2) ≡ 0) w
   length_frame g h = length_cut_at ch (length bytes / (ch * 2)) (decode bytes) g (rw (length_decode bytes) (omega (arith, whole_is))) h
 
   module _ (g c : ℕ) (h : g < length bytes / (ch * 2)) (k : c < ch) where
-    sample-before : g * ch + c < length bytes / (ch * 2) * ch
-    sample-before = omega (arith, mul-le-mul_right ch h)
+    sample_before : g * ch + c < length bytes / (ch * 2) * ch
+    sample_before = omega (arith, mul-le-mul_right ch h)
 
     pub sample_inside : (g * ch + c) * 2 + 1 < length bytes
-    sample_inside = omega (arith, whole_is, sample-before)
+    sample_inside = omega (arith, whole_is, sample_before)
 
-    pub sample-of : get_or (get_or (frames_of ch bytes) g []) c (pos 0) ≡ sample_at bytes ((g * ch + c) * 2)
+    pub sample_of_lem : get_or (get_or (frames_of ch bytes) g []) c (pos 0) ≡ sample_at bytes ((g * ch + c) * 2)
     unfolding frames_of
-    sample-of =
+    sample_of_lem =
         let e : 2 * (g * ch + c) ≡ (g * ch + c) * 2 = omega arith in
         get_or_cut ch (length bytes / (ch * 2)) (decode bytes) g c (pos 0) h k ∙ get_or_decode bytes (g * ch + c) (pos 0) (omega (arith, sample_inside)) ∙ ap (sample_at bytes) e
 

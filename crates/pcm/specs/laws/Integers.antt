@@ -173,11 +173,11 @@ floor_up : (z : ℤ) → floor_div (z +ℤ pos 32768) 32768 ≡ suc_ℤ (floor_d
 floor_up (pos a) = ap pos (omega arith)
 floor_up (negsuc a) = go (dec_lt 32768 (suc a))
   where
-    suc-negsuc : (q p : ℕ) → q ≡ suc p → negsuc p ≡ suc_ℤ (negsuc q)
-    suc-negsuc q p e = rw e
+    suc_negsuc : (q p : ℕ) → q ≡ suc p → negsuc p ≡ suc_ℤ (negsuc q)
+    suc_negsuc q p e = rw e
 
     go : Dec (32768 < suc a) → floor_div (sub_ℕ 32768 (suc a)) 32768 ≡ suc_ℤ (negsuc (a / 32768))
-    go (yes l) = rw (sub_lt 32768 (suc a) l) (suc-negsuc (a / 32768) ((suc a - suc 32768) / 32768) (omega arith))
+    go (yes l) = rw (sub_lt 32768 (suc a) l) (suc_negsuc (a / 32768) ((suc a - suc 32768) / 32768) (omega arith))
     go (no l) =
         let g : suc a ≤ 32768 = omega arith in
         let e : a / 32768 ≡ 0 = omega arith in

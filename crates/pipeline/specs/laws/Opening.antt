@@ -54,14 +54,14 @@ module _ (f : PcmFormat) (more : ℕ) (left : List ℕ) (h : 0 < length left) wh
   open_short e = rw (records_next left h, e)
 
   module _ (e : record_verdict left ≡ Accepted) where
-    pub open-note : of_note (kind_at left) ≡ true → open_stages more f left ≡ open_stages more f (after_next left)
+    pub open_note : of_note (kind_at left) ≡ true → open_stages more f left ≡ open_stages more f (after_next left)
     unfolding open_stages open_records
-    open-note n = rw (records_next left h, e, n)
+    open_note n = rw (records_next left h, e, n)
 
     module _ (s : of_note (kind_at left) ≡ false) where
-      pub open-unfit : {x : Error} → stage_verdict more f (record_at left) ≡ Refused x → open_stages more f left ≡ refused x
+      pub open_unfit : {x : Error} → stage_verdict more f (record_at left) ≡ Refused x → open_stages more f left ≡ refused x
       unfolding open_stages open_records
-      open-unfit k = rw (records_next left h, e, s, k)
+      open_unfit k = rw (records_next left h, e, s, k)
 
       pub open_next : stage_verdict more f (record_at left) ≡ Accepted
           → open_stages more f left ≡ front (stage_as_opened (next_kind f left)) (open_stages (more - 1) (format_after f (next_kind f left)) (after_next left))

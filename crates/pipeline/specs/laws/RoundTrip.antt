@@ -62,14 +62,14 @@ split_front s (refused x) ss e = zero_not_one (cc)
 by_first : (more : ℕ) (f : PcmFormat) (left : List ℕ) (later : List (List ℕ)) (ss : List Stage) → open_records more f (left ∷ later) ≡ opened ss
     → NoteFirst more f left later ss ⊎ StageFirst more f left later ss
 unfolding open_records
-by_first more f left later ss e = by-record (record_verdict left) refl (of_note (kind_at left)) refl (stage_verdict more f (record_at left)) refl
+by_first more f left later ss e = by_record (record_verdict left) refl (of_note (kind_at left)) refl (stage_verdict more f (record_at left)) refl
   where
-    by-record : (v : Verdict) → record_verdict left ≡ v → (t : Bool) → of_note (kind_at left) ≡ t → (w : Verdict) → stage_verdict more f (record_at left) ≡ w
+    by_record : (v : Verdict) → record_verdict left ≡ v → (t : Bool) → of_note (kind_at left) ≡ t → (w : Verdict) → stage_verdict more f (record_at left) ≡ w
         → NoteFirst more f left later ss ⊎ StageFirst more f left later ss
-    by-record (Refused x) a t n w b = let o = rw a at e in zero_not_one (cc)
-    by-record Accepted a true n w b = inl (record { read = a; note = n; then = rw (a, n) at e })
-    by-record Accepted a false n (Refused x) b = let o = rw (a, n, b) at e in zero_not_one (cc)
-    by-record Accepted a false n Accepted b =
+    by_record (Refused x) a t n w b = let o = rw a at e in zero_not_one (cc)
+    by_record Accepted a true n w b = inl (record { read = a; note = n; then = rw (a, n) at e })
+    by_record Accepted a false n (Refused x) b = let o = rw (a, n, b) at e in zero_not_one (cc)
+    by_record Accepted a false n Accepted b =
         let p = split_front (stage_as_opened (next_kind f left)) (open_records (more - 1) (format_after f (next_kind f left)) later) ss (rw (a, n, b) at e) in
         inr (record { rest = p.0; read = a; stage = n; fits = b; stages_are = p.1; then = p.2 })
 
@@ -157,12 +157,12 @@ opened_stages f ss = take_at ss (replicate (8 - length ss) unused_stage) (length
 
 pub opened_from : (f : PcmFormat) (bytes : List ℕ) (c : Pipeline) → open_call f bytes ≡ record { verdict = Accepted; chain = c } → OpenedFrom f bytes c
 unfolding open_call
-opened_from f bytes c e = by-format (format_allowed f) refl (open_stages 8 f bytes) refl
+opened_from f bytes c e = by_format (format_allowed f) refl (open_stages 8 f bytes) refl
   where
-    by-format : (b : Bool) → format_allowed f ≡ b → (x : Stages) → open_stages 8 f bytes ≡ x → OpenedFrom f bytes c
-    by-format false h x q = let v = ap (λ (o : Opened). o.verdict) (rw h at e) in zero_not_one (cc)
-    by-format true h (refused y) q = let v = ap (λ (o : Opened). o.verdict) (rw (h, q) at e) in zero_not_one (cc)
-    by-format true h (opened ss) q = record { allowed = h; stages = ss; opens = q; chain_is = sym (ap (λ (o : Opened). o.chain) (rw (h, q) at e)) }
+    by_format : (b : Bool) → format_allowed f ≡ b → (x : Stages) → open_stages 8 f bytes ≡ x → OpenedFrom f bytes c
+    by_format false h x q = let v = ap (λ (o : Opened). o.verdict) (rw h at e) in zero_not_one (cc)
+    by_format true h (refused y) q = let v = ap (λ (o : Opened). o.verdict) (rw (h, q) at e) in zero_not_one (cc)
+    by_format true h (opened ss) q = record { allowed = h; stages = ss; opens = q; chain_is = sym (ap (λ (o : Opened). o.chain) (rw (h, q) at e)) }
 
 pub count_is : (f : PcmFormat) (ss : List Stage) → (chain_of f ss).count ≡ length ss
 unfolding chain_of

@@ -26,9 +26,9 @@ module _ (q : Question) (s : Stage) (n : ℕ) where
     unfolding due_of
     reached d e z k = rw (e, ne_eqb n 0 z, h, k)
 
-    any-state : q ≡ AnyState → record { wanted = w; delivered = w } ≡ due_of q s n
+    any_state : q ≡ AnyState → record { wanted = w; delivered = w } ≡ due_of q s n
     unfolding due_of
-    any-state e = rw (e, h)
+    any_state e = rw (e, h)
 
 pub stage_due_spec : {M : Type 1} → statement M
 stage_due_spec = tie.close (tie.spec
@@ -36,5 +36,5 @@ stage_due_spec = tie.close (tie.spec
     (λ c. not_reached _ _ _ c.in-Block.is c.if-frames-eq0.true)
     (λ c κs. search rules) (λ c. search rules) (λ c. search rules) (λ c κs. search rules)
     (λ c. reached _ _ _ _ c.frames_wanted-wanted.ensures _ c.in-Block.is c.if-frames-eq0.false c.frames_out.ensures)
-    (λ c. any-state _ _ _ _ c.frames_wanted-wanted.ensures c.in-AnyState.is)
+    (λ c. any_state _ _ _ _ c.frames_wanted-wanted.ensures c.in-AnyState.is)
     (λ c. at_end _ _ _ _ c.in-Finish.is c.frames_at_end-delivered.ensures))

@@ -31,15 +31,15 @@ module _ (own format : PcmFormat) (size : ℕ) (w : Walk) where
     unfolding verdict_from
     placed e z = rw (h, e, eq-eqb w.short 0 z)
 
-sized-here : (c : tie.After-same_format) → let s = c.before.before.before in sized_from c.args.own c.args.size c.args.walk ≡ Accepted
-sized-here c = sym c.sized-asked.ensures ∙ c.in_default.is
+sized_here : (c : tie.After-same_format) → let s = c.before.before.before in sized_from c.args.own c.args.size c.args.walk ≡ Accepted
+sized_here c = sym c.sized-asked.ensures ∙ c.in_default.is
 
 pub verdict_spec : {M : Type 1} → statement M
 verdict_spec = tie.close (tie.spec
     (λ c κs. search rules) (λ c. search rules)
     (λ c. not_sized _ _ _ _ _ (sym c.sized-asked.ensures ∙ c.in-Refused.is))
     (λ c. search rules) (λ c κs. search rules)
-    (λ c. other _ _ _ _ (sized-here c.before) (sym c.same_format.ensures ∙ c.if-not-same_format.true))
+    (λ c. other _ _ _ _ (sized_here c.before) (sym c.same_format.ensures ∙ c.if-not-same_format.true))
     (λ c. search rules)
-    (λ c. too_short _ _ _ _ (sized-here c.before.before.before.before) (sym c.same_format.ensures ∙ c.if-not-same_format.false) c.if-walk-ne0.true)
-    (λ c. placed _ _ _ _ (sized-here c.before.before.before) (sym c.same_format.ensures ∙ c.if-not-same_format.false) c.if-walk-ne0.false))
+    (λ c. too_short _ _ _ _ (sized_here c.before.before.before.before) (sym c.same_format.ensures ∙ c.if-not-same_format.false) c.if-walk-ne0.true)
+    (λ c. placed _ _ _ _ (sized_here c.before.before.before) (sym c.same_format.ensures ∙ c.if-not-same_format.false) c.if-walk-ne0.false))

@@ -69,7 +69,7 @@ module _ (i : ℕ) (hi : 0 < i) where
   count_add p D E =
       le_antisymm
       (count_least p (D + E) (count i p D + count i (past i p D) E) (omega (arith, past_is p D, count_reach (past i p D) E)))
-      (not-before (count i p D + count i (past i p D) E) below)
+      (not_before (count i p D + count i (past i p D) E) below)
     where
       below : (j : ℕ) → j < count i p D + count i (past i p D) E → p + j * i < D + E
       below j h = pick (dec_lt j (count i p D))
@@ -82,8 +82,8 @@ module _ (i : ℕ) (hi : 0 < i) where
               let b : past i p D + m * i < E = count_before (past i p D) E m (omega arith) in
               rw e (omega (arith, past_is p D, b))
 
-      not-before : (m : ℕ) → ((j : ℕ) → j < m → p + j * i < D + E) → m ≤ count i p (D + E)
-      not-before m b = le_of_suc-le-suc (lt_of_not-le λ h. lt_irrefl (D + E) (lt_of_lt_of_le (suc-le-suc (count_reach p (D + E))) (b (count i p (D + E)) h)))
+      not_before : (m : ℕ) → ((j : ℕ) → j < m → p + j * i < D + E) → m ≤ count i p (D + E)
+      not_before m b = le_of_suc-le-suc (lt_of_not-le λ h. lt_irrefl (D + E) (lt_of_lt_of_le (suc-le-suc (count_reach p (D + E))) (b (count i p (D + E)) h)))
 
   past-add : (p D E : ℕ) → past i p (D + E) ≡ past i (past i p D) E
   past-add p D E = omega (arith, past_is p (D + E), past_is p D, past_is (past i p D) E, count_add p D E, ap (λ (k : ℕ). k * i) (count_add p D E))

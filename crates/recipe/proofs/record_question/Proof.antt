@@ -24,18 +24,18 @@ four c = le-leb 4 (length (left_of c.before.before)) c.if-left-lt4.false
 two : (c : tie.Else-length-lt2) → leb 2 (length_at (left_of c.before.before.before.before)) ≡ true
 two c = rw c.get_u16-length.ensures at (le-leb 2 c.get_u16-length.result c.if-length-lt2.false)
 
-kind-is : (c : tie.After-known) → c.get_u16-kind.result ≡ kind_at (left_of c.before.before.before.before.before.before)
-kind-is c = c.get_u16-kind.ensures
+kind_is : (c : tie.After-known) → c.get_u16-kind.result ≡ kind_at (left_of c.before.before.before.before.before.before)
+kind_is c = c.get_u16-kind.ensures
 
 is_known : (c : tie.Else-not-known) → known c.get_u16-kind.result ≡ true
 is_known c = sym c.known.ensures ∙ c.if-not-known.false
 
 told : (c : tie.Else-not-known) → known (kind_at (left_of c.before.before.before.before.before.before.before)) ≡ true
-told c = rw (kind-is c.before) at (is_known c)
+told c = rw (kind_is c.before) at (is_known c)
 
 -- what the length's question comes to
 sized : (c : tie.After-length_question-sized) → let left = left_of c.before.before.before.before.before.before.before.before in c.length_question-sized.result ≡ length_verdict (kind_at left) (length_at left)
-sized c = c.length_question-sized.ensures ∙ ap₂ length_verdict (kind-is c.before.before) c.get_u16-length.ensures
+sized c = c.length_question-sized.ensures ∙ ap₂ length_verdict (kind_is c.before.before) c.get_u16-length.ensures
 
 returns : tie.Need-returns-then-left-lt4
 unfolding record_verdict
@@ -48,7 +48,7 @@ returns-2 c = rw (four c.before.before, rw c.get_u16-length.ensures at (lt-leb 2
 returns-3 : tie.Need-returns-then-not-known
 unfolding record_verdict
 returns-3 c =
-    let k : known (kind_at (left_of c.before.before.before.before.before.before.before)) ≡ false = sym (ap known (kind-is c.before)) ∙ sym c.known.ensures ∙ c.if-not-known.true in
+    let k : known (kind_at (left_of c.before.before.before.before.before.before.before)) ≡ false = sym (ap known (kind_is c.before)) ∙ sym c.known.ensures ∙ c.if-not-known.true in
     rw (four c.before.before.before.before.before, two c.before.before.before, k)
 
 returns-4 : tie.Need-returns-in-Refused

@@ -14,7 +14,7 @@ use Rattle.pcm.specs.Frames.{frames_of}
 use Rattle.resample.specs.Resample.{outputs_from}
 use Rattle.rates.specs.Rates.{start}
 use Rattle.resample.specs.Stage.{Looped}
-use Rattle.resample.proofs.Blocks.{mono_same, some_frame, loop_ready, past-ready, block-done}
+use Rattle.resample.proofs.Blocks.{mono_same, some_frame, loop_ready, past_ready, block_done}
 use Rattle.resample.proofs.resample_mono.Statement.{statement}
 use Rattle.resample.proofs.resample_mono.Tie as tie
 
@@ -41,7 +41,7 @@ past-requires c κs =
     let p = m.before.before.before in
     let s = p.before.before.before.before in
     let a = c.args in
-    past-ready 1 a.in_r a.out_r a.s (last_of s ∷ []) a.input.now a.out.now c.requires (same m.before) c.run_mono-d.new.out c.run_mono-d.result (ran m)
+    past_ready 1 a.in_r a.out_r a.s (last_of s ∷ []) a.input.now a.out.now c.requires (same m.before) c.run_mono-d.new.out c.run_mono-d.result (ran m)
     (rw c.first_position-num.ensures at c.first_position-num.type_inv)
 
 returns : tie.Need-returns
@@ -53,7 +53,7 @@ returns c =
     let l = a.input.now in
     let k = some_frame 1 a.in_r a.out_r a.s (last_of s ∷ []) l a.out.now c.requires (same m.before) in
     let e : length l - 2 ≡ ((length l / 2 - 1) * 1 + 0) * 2 = omega (arith, k, c.requires.whole) in
-    block-done 1 a.in_r a.out_r a.s (last_of s ∷ []) l a.out.now c.requires (same m.before) c.run_mono-d.new.out c.run_mono-d.result (ran m)
+    block_done 1 a.in_r a.out_r a.s (last_of s ∷ []) l a.out.now c.requires (same m.before) c.run_mono-d.new.out c.run_mono-d.result (ran m)
     (to_z w16 (of_z w16 c.get_i16-newest.result) ∷ pos 0 ∷ []) c.past-phase.result
     (ap (λ (z : ℤ). z ∷ pos 0 ∷ []) (answered w16 c.get_i16-newest.type_inv c.get_i16-newest.ensures ∙ ap (sample_at l) e)) c.past-phase.ensures
 

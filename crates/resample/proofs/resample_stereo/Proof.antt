@@ -14,7 +14,7 @@ use Rattle.pcm.specs.Frames.{Frame, frames_of}
 use Rattle.resample.specs.Resample.{outputs_from}
 use Rattle.rates.specs.Rates.{start}
 use Rattle.resample.specs.Stage.{Looped}
-use Rattle.resample.proofs.Blocks.{stereo_same, some_frame, loop_ready, past-ready, block-done}
+use Rattle.resample.proofs.Blocks.{stereo_same, some_frame, loop_ready, past_ready, block_done}
 use Rattle.resample.proofs.resample_stereo.Statement.{statement}
 use Rattle.resample.proofs.resample_stereo.Tie as tie
 
@@ -44,7 +44,7 @@ past-requires c κs =
     let p = m.before.before.before.before in
     let s = p.before.before.before.before in
     let a = c.args in
-    past-ready 2 a.in_r a.out_r a.s (last_of s) a.input.now a.out.now c.requires (same m.before) c.run_stereo-d.new.out c.run_stereo-d.result (ran m)
+    past_ready 2 a.in_r a.out_r a.s (last_of s) a.input.now a.out.now c.requires (same m.before) c.run_stereo-d.new.out c.run_stereo-d.result (ran m)
     (rw c.first_position-num.ensures at c.first_position-num.type_inv)
 
 -- a block has the bytes of a frame
@@ -62,7 +62,7 @@ returns c =
     let k = some_frame 2 a.in_r a.out_r a.s (last_of s) l a.out.now c.requires (same m.before) in
     let e : length l - 4 ≡ ((length l / 4 - 1) * 2 + 0) * 2 = omega (arith, k, c.requires.whole) in
     let f : length l - 2 ≡ ((length l / 4 - 1) * 2 + 1) * 2 = omega (arith, k, c.requires.whole) in
-    block-done 2 a.in_r a.out_r a.s (last_of s) l a.out.now c.requires (same m.before) c.run_stereo-d.new.out c.run_stereo-d.result (ran m)
+    block_done 2 a.in_r a.out_r a.s (last_of s) l a.out.now c.requires (same m.before) c.run_stereo-d.new.out c.run_stereo-d.result (ran m)
     (to_z w16 (of_z w16 c.get_i16-left.result) ∷ to_z w16 (of_z w16 c.get_i16-right.result) ∷ []) c.past-phase.result
     (ap₂ (λ (y z : ℤ). y ∷ z ∷ []) (answered w16 c.get_i16-left.type_inv c.get_i16-left.ensures ∙ ap (sample_at l) e) (answered w16 c.get_i16-right.type_inv c.get_i16-right.ensures ∙ ap (sample_at l) f)) c.past-phase.ensures
 

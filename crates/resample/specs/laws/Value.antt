@@ -24,11 +24,11 @@ floor_neg (suc m) = go (dec_lt 2147483648 (suc m))
     zero_is : (k : ℕ) → k ≡ zero → neg_ℤ (pos k) ≡ pos zero
     zero_is k e = rw e
 
-    suc-is : (k n : ℕ) → k ≡ suc n → negsuc n ≡ neg_ℤ (pos k)
-    suc-is k n e = rw e
+    suc_is : (k n : ℕ) → k ≡ suc n → negsuc n ≡ neg_ℤ (pos k)
+    suc_is k n e = rw e
 
     go : Dec (2147483648 < suc m) → floor_div (sub_ℕ 2147483648 (suc m)) 4294967296 ≡ neg_ℤ (pos ((suc m + 2147483647) / 4294967296))
-    go (yes h) = rw (sub_lt 2147483648 (suc m) h) (suc-is ((suc m + 2147483647) / 4294967296) ((suc m - suc 2147483648) / 4294967296) (omega arith))
+    go (yes h) = rw (sub_lt 2147483648 (suc m) h) (suc_is ((suc m + 2147483647) / 4294967296) ((suc m - suc 2147483648) / 4294967296) (omega arith))
     go (no h) =
         let g : suc m ≤ 2147483648 = omega arith in
         let z : (2147483648 - suc m) / 4294967296 ≡ zero = omega arith in

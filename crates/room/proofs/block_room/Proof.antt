@@ -10,7 +10,7 @@ use Rattle.questions.specs.Walk.{head_legal, sized_from}
 use Rattle.block.specs.laws.Asking.{Head, head_parts}
 use Rattle.block.specs.laws.Walking.{head_illegal}
 use Rattle.room.specs.Room.{found, room_answer}
-use Rattle.room.specs.laws.Asked.{block-room-is, block_room_refused}
+use Rattle.room.specs.laws.Asked.{block_room_is, block_room_refused}
 use Rattle.room.proofs.Telling.{block_told_lem}
 use Rattle.room.proofs.block_room.Statement.{statement}
 use Rattle.room.proofs.block_room.Tie as tie
@@ -41,4 +41,4 @@ block_room_spec = tie.close (tie.spec
     (c.of_block.ensures
     ∙ ap (λ (x : Walk). room_answer (sized_from a.chain.format c.asked_bytes-size.result x) x) c.walked.ensures
     ∙ ap (λ (k : ℕ). room_answer (sized_from a.chain.format k (found Block a.chain k)) (found Block a.chain k)) c.asked_bytes-size.ensures
-    ∙ block-room-is a.chain (head e) a.frames (parts e).channels.0)))
+    ∙ block_room_is a.chain (head e) a.frames (parts e).channels.0)))

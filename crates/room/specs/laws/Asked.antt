@@ -75,16 +75,16 @@ module _ (c : Pipeline) (head : head_legal c.format c.count ≡ true) where
     abbrev size : ℕ
     size = asked_bytes c.format n
 
-    sized-is : sized_from c.format size (found Block c size) ≡ block_asked c n
+    sized_is : sized_from c.format size (found Block c size) ≡ block_asked c n
     unfolding sized_from
-    sized-is =
+    sized_is =
         ap₂ (λ (t : Bool) (v : Verdict). ask t InvalidFormat v) (found_legal Block c size head)
         (size_frames c.format (asked_frames n) channels ∙ asked_verdict n)
 
-    pub block-room-is : room_answer (sized_from c.format (asked_bytes c.format n) (found Block c (asked_bytes c.format n))) (found Block c (asked_bytes c.format n)) ≡ block_room c n
+    pub block_room_is : room_answer (sized_from c.format (asked_bytes c.format n) (found Block c (asked_bytes c.format n))) (found Block c (asked_bytes c.format n)) ≡ block_room c n
     unfolding block_room
-    block-room-is =
-        ap (λ (v : Verdict). room_answer v (found Block c size)) sized-is
+    block_room_is =
+        ap (λ (v : Verdict). room_answer v (found Block c size)) sized_is
         ∙ same_answer (block_asked c n) (found Block c size) (found Block c (n * (c.format.channels * 2)))
         (λ h. ap (λ (k : ℕ). found Block c (k * (c.format.channels * 2))) (asked_all n (ask_yes (legal c) InvalidFormat (frames_verdict n) h).1))
 

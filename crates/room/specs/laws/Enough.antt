@@ -78,40 +78,40 @@ module _ (c : Pipeline) (lawful : legal c ≡ true) where
 
   -- the walk with halves lent, the shorter of m bytes
   module _ (q : Question) (size : ℕ) where
-    abbrev pub walkWith : ℕ → Walk
-    walkWith m = walked q m (begun c.format c.count size m) (stages_of c)
+    abbrev pub walk_with : ℕ → Walk
+    walk_with m = walked q m (begun c.format c.count size m) (stages_of c)
 
-    pub start-suited : (m : ℕ) → suited (begun c.format c.count size m).format (stages_of c) ≡ true
-    start-suited m = ap (λ (f : PcmFormat). suited f (stages_of c)) (begins c.format c.count size m).format ∙ (legal_parts c lawful).suit
+    pub start_suited : (m : ℕ) → suited (begun c.format c.count size m).format (stages_of c) ≡ true
+    start_suited m = ap (λ (f : PcmFormat). suited f (stages_of c)) (begins c.format c.count size m).format ∙ (legal_parts c lawful).suit
 
-    pub legal-with : (m : ℕ) → (walkWith m).legal ≡ true
-    legal-with m = walked_legal q m (begun c.format c.count size m) (stages_of c) (begins c.format c.count size m).legal ∙ start-suited m
+    pub legal_with : (m : ℕ) → (walk_with m).legal ≡ true
+    legal_with m = walked_legal q m (begun c.format c.count size m) (stages_of c) (begins c.format c.count size m).legal ∙ start_suited m
 
-    pub fits-with : (m : ℕ) → Fits m (walkWith m)
-    fits-with m = walked_fits q m (begun c.format c.count size m) (stages_of c) (begun_fits c.format c.count size m)
+    pub fits_with : (m : ℕ) → Fits m (walk_with m)
+    fits_with m = walked_fits q m (begun c.format c.count size m) (stages_of c) (begun_fits c.format c.count size m)
 
-    start-alike : (m : ℕ) → Alike (begun c.format c.count size m) (begun c.format c.count size 0)
+    start_alike : (m : ℕ) → Alike (begun c.format c.count size m) (begun c.format c.count size 0)
     unfolding begun
-    start-alike m = record { legal = refl; format = refl; frames = refl; largest = refl }
+    start_alike m = record { legal = refl; format = refl; frames = refl; largest = refl }
 
-    pub largest-with : (m : ℕ) → (walkWith m).largest ≡ (found q c size).largest
+    pub largest_with : (m : ℕ) → (walk_with m).largest ≡ (found q c size).largest
     unfolding found
-    largest-with m = (walked_alike q m 0 (begun c.format c.count size m) (begun c.format c.count size 0) (stages_of c) (start-alike m)).largest
+    largest_with m = (walked_alike q m 0 (begun c.format c.count size m) (begun c.format c.count size 0) (stages_of c) (start_alike m)).largest
 
   module _ (eight : length c.stages ≡ 8) (size : ℕ) (sized : size_verdict c.format size ≡ Accepted) where
-    block_with : (m : ℕ) → block_verdict c c.format size m ≡ short_verdict (walkWith Block size m).short
+    block_with : (m : ℕ) → block_verdict c c.format size m ≡ short_verdict (walk_with Block size m).short
     unfolding verdict_from sized_from
     block_with m =
         sym (verdict_is c c.format size m head (no_stages c) (λ z. not_none (stages_of c) (some_stages c (legal_parts c lawful).few z eight)))
-        ∙ ap₂ (λ (t : Bool) (v : Verdict). and_then (ask t InvalidFormat v) (ask (same_format c.format c.format) Unsupported (short_verdict (walkWith Block size m).short))) (legal-with Block size m) sized
-        ∙ ap (λ (t : Bool). ask t Unsupported (short_verdict (walkWith Block size m).short)) (same_formats c.format)
+        ∙ ap₂ (λ (t : Bool) (v : Verdict). and_then (ask t InvalidFormat v) (ask (same_format c.format c.format) Unsupported (short_verdict (walk_with Block size m).short))) (legal_with Block size m) sized
+        ∙ ap (λ (t : Bool). ask t Unsupported (short_verdict (walk_with Block size m).short)) (same_formats c.format)
 
-    pub block-smallest : Smallest (block_verdict c c.format size) (found Block c size).largest
-    block-smallest = smallest_is (block_verdict c c.format size) (walkWith Block size) (found Block c size).largest block_with (fits-with Block size) (largest-with Block size)
+    pub block_smallest : Smallest (block_verdict c c.format size) (found Block c size).largest
+    block_smallest = smallest_is (block_verdict c c.format size) (walk_with Block size) (found Block c size).largest block_with (fits_with Block size) (largest_with Block size)
 
-  finish_with : (m : ℕ) → finish_verdict c m ≡ short_verdict (walkWith Finish 0 m).short
+  finish_with : (m : ℕ) → finish_verdict c m ≡ short_verdict (walk_with Finish 0 m).short
   unfolding end_from
-  finish_with m = sym (end_is c m head) ∙ ap (λ (t : Bool). ask t InvalidFormat (short_verdict (walkWith Finish 0 m).short)) (legal-with Finish 0 m)
+  finish_with m = sym (end_is c m head) ∙ ap (λ (t : Bool). ask t InvalidFormat (short_verdict (walk_with Finish 0 m).short)) (legal_with Finish 0 m)
 
   pub finish_smallest : Smallest (finish_verdict c) (found Finish c 0).largest
-  finish_smallest = smallest_is (finish_verdict c) (walkWith Finish 0) (found Finish c 0).largest finish_with (fits-with Finish 0) (largest-with Finish 0)
+  finish_smallest = smallest_is (finish_verdict c) (walk_with Finish 0) (found Finish c 0).largest finish_with (fits_with Finish 0) (largest_with Finish 0)

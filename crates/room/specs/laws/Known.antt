@@ -34,7 +34,7 @@ use Rattle.room.specs.declared.Room.TheVariants as room
 use Rattle.room.specs.Beforehand.{Smallest, BlockKnown, FinishKnown, Sounding, frame_bytes, leaving_bytes}
 use Rattle.room.specs.Room.{found, block_found, finish_found, frames_verdict, block_asked, finish_asked, room_answer, block_room, finish_room}
 use Rattle.room.specs.laws.Asked.{size_frames}
-use Rattle.room.specs.laws.Enough.{known_parts, start-suited, block-smallest, finish_smallest}
+use Rattle.room.specs.laws.Enough.{known_parts, start_suited, block_smallest, finish_smallest}
 
 -- ---- halves of at least so many bytes, or of just so many
 both_long : (m : ℕ) (a b : List ℕ) → m ≤ length a → m ≤ length b → m ≤ shorter a b
@@ -64,7 +64,7 @@ module _ (c : Pipeline) (sound : Sounding c) (n frames half : ℕ) (known : bloc
   sized = size_frames c.format n (legal_parts c lawful).channels.0 ∙ (ask_yes (legal c) InvalidFormat (frames_verdict n) parts.0).1
 
   smallest : Smallest (block_verdict c c.format (n * frame_bytes c)) half
-  smallest = rw parts.1.1 at (block-smallest c lawful sound.places (n * frame_bytes c) sized)
+  smallest = rw parts.1.1 at (block_smallest c lawful sound.places (n * frame_bytes c) sized)
 
   module _ (bytes : List ℕ) (long : length bytes ≡ n * frame_bytes c) where
     arriving : (begun c.format c.count (n * frame_bytes c) 0).frames ≡ length (frames_of c.format.channels bytes)
@@ -74,13 +74,13 @@ module _ (c : Pipeline) (sound : Sounding c) (n frames half : ℕ) (known : bloc
     unfolding found
     exact =
         sym (frames_leaving 0 (begun c.format c.count (n * frame_bytes c) 0) (stages_of c) (frames_of c.format.channels bytes)
-        (begins c.format c.count (n * frame_bytes c) 0).legal (start-suited c lawful Block (n * frame_bytes c) 0) arriving)
+        (begins c.format c.count (n * frame_bytes c) 0).legal (start_suited c lawful Block (n * frame_bytes c) 0) arriving)
         ∙ parts.1.0
 
     module _ (timestamp : ℕ) (a b : List ℕ) where
-      by-verdict : (v : Verdict) → block_verdict c c.format (n * frame_bytes c) (shorter a b) ≡ v → block_call c c.format timestamp bytes a b ≡ concluded v c timestamp bytes (halves a b)
+      by_verdict : (v : Verdict) → block_verdict c c.format (n * frame_bytes c) (shorter a b) ≡ v → block_call c c.format timestamp bytes a b ≡ concluded v c timestamp bytes (halves a b)
       unfolding block_call
-      by-verdict v e = ap (λ (x : Verdict). concluded x c timestamp bytes (halves a b)) (ap (λ (k : ℕ). block_verdict c c.format k (shorter a b)) long ∙ e)
+      by_verdict v e = ap (λ (x : Verdict). concluded x c timestamp bytes (halves a b)) (ap (λ (k : ℕ). block_verdict c c.format k (shorter a b)) long ∙ e)
 
   pub block_known : BlockKnown c n frames half
   unfolding accepted
@@ -88,13 +88,13 @@ module _ (c : Pipeline) (sound : Sounding c) (n frames half : ℕ) (known : bloc
     exact = exact;
     smallest = smallest;
     delivers = λ timestamp bytes a b good long h k.
-        let e : block_call c c.format timestamp bytes a b ≡ accepted c timestamp bytes (halves a b) = by-verdict bytes long timestamp a b Accepted (smallest.enough (shorter a b) (both_long half a b h k)) in
+        let e : block_call c c.format timestamp bytes a b ≡ accepted c timestamp bytes (halves a b) = by_verdict bytes long timestamp a b Accepted (smallest.enough (shorter a b) (both_long half a b h k)) in
         let l : output_bytes c bytes ≡ frames * leaving_bytes c =
         length_bytes (format_leaving c.format (stages_of c)).channels (chain_out (stages_of c) (frames_of c.format.channels bytes)) (sound.leaving _ (frames_are_frames c.format.channels bytes good))
         ∙ ap (λ (m : ℕ). m * leaving_bytes c) (exact bytes long) in
         (e, ap (λ (r : Result). r.answer) e ∙ ap (λ (m : ℕ). output_answer (format_leaving c.format (stages_of c)) timestamp (last_half c.count) m (block_clipped c bytes)) l);
     refused = λ timestamp bytes a b long some h k.
-        by-verdict bytes long timestamp a b _ (ap (block_verdict c c.format (n * frame_bytes c)) (both_of (half - 1) a b h k) ∙ smallest.one_less some);
+        by_verdict bytes long timestamp a b _ (ap (block_verdict c c.format (n * frame_bytes c)) (both_of (half - 1) a b h k) ∙ smallest.one_less some);
   }
 
 -- ---- and of a finish
@@ -113,13 +113,13 @@ module _ (c : Pipeline) (sound : Sounding c) (frames half : ℕ) (known : finish
   unfolding found
   exact_end =
       ap (λ (f : PcmFormat). length (chain_end f (stages_of c) [])) (sym (begins c.format c.count 0 0).format)
-      ∙ sym (frames_ending 0 (begun c.format c.count 0 0) (stages_of c) [] (begins c.format c.count 0 0).legal (start-suited c finish_lawful Finish 0 0) (start_frames c.format c.count 0))
+      ∙ sym (frames_ending 0 (begun c.format c.count 0 0) (stages_of c) [] (begins c.format c.count 0 0).legal (start_suited c finish_lawful Finish 0 0) (start_frames c.format c.count 0))
       ∙ finish_parts.1.0
 
   module _ (a b : List ℕ) where
-    finish-by-verdict : (v : Verdict) → finish_verdict c (shorter a b) ≡ v → finish_call c a b ≡ finish_concluded v c (halves a b)
+    finish_by_verdict : (v : Verdict) → finish_verdict c (shorter a b) ≡ v → finish_call c a b ≡ finish_concluded v c (halves a b)
     unfolding finish_call
-    finish-by-verdict v e = ap (λ (x : Verdict). finish_concluded x c (halves a b)) e
+    finish_by_verdict v e = ap (λ (x : Verdict). finish_concluded x c (halves a b)) e
 
   pub finish_known : FinishKnown c frames half
   unfolding finished
@@ -127,11 +127,11 @@ module _ (c : Pipeline) (sound : Sounding c) (frames half : ℕ) (known : finish
     exact = exact_end;
     smallest = finish_least;
     delivers = λ a b h k.
-        let e : finish_call c a b ≡ finished c (halves a b) = finish-by-verdict a b Accepted (finish_least.enough (shorter a b) (both_long half a b h k)) in
+        let e : finish_call c a b ≡ finished c (halves a b) = finish_by_verdict a b Accepted (finish_least.enough (shorter a b) (both_long half a b h k)) in
         let l : finish_bytes c ≡ frames * leaving_bytes c =
         length_bytes (format_leaving c.format (stages_of c)).channels (chain_end c.format (stages_of c) []) sound.ending ∙ ap (λ (m : ℕ). m * leaving_bytes c) exact_end in
         (e, ap (λ (r : FinishResult). r.answer) e ∙ ap (λ (m : ℕ). finish_answer (format_leaving c.format (stages_of c)) (last_half c.count) m (finish_clipped c)) l);
-    refused = λ a b some h k. finish-by-verdict a b _ (ap (finish_verdict c) (both_of (half - 1) a b h k) ∙ finish_least.one_less some);
+    refused = λ a b some h k. finish_by_verdict a b _ (ap (finish_verdict c) (both_of (half - 1) a b h k) ∙ finish_least.one_less some);
   }
 
 -- ---- what is refused beforehand

@@ -175,33 +175,33 @@ module _ (f : PcmFormat) (st : Stage) (src dst : List ℕ) (w : Served f st src 
     abbrev made : List Frame
     made = resampled r st.memory.resampler xs
 
-    made-room : length made * (f.channels * 2) ≤ length dst
+    made_room : length made * (f.channels * 2) ≤ length dst
     unfolding frames_out
-    made-room =
+    made_room =
         let n : length xs ≡ length src / (f.channels * 2) = length_frames f.channels src in
         rw (resampled_count_lem r st.memory.resampler xs, n) (room_of_lem (kind.Resample r) e)
 
-    pub resample-asks : Ready f.channels r.in_r r.out_r made src dst
-    resample-asks = record {
+    pub resample_asks : Ready f.channels r.in_r r.out_r made src dst
+    resample_asks = record {
       channels = w.channels;
       in_r = suit_here.rates.in_r;
       out_r = suit_here.rates.out_r;
       some = w.some;
       whole = w.whole;
-      room = made-room;
+      room = made_room;
     }
 
     -- the bytes of what is made, whose frames have as many samples as those that came
     made_bytes : FramesOf f.channels xs → length (bytes_of made) ≡ length made * (f.channels * 2)
     made_bytes a = length_bytes f.channels made (resampled_frames f.channels r st.memory.resampler xs (subst (λ (k : StageKind). Held k st.memory) e held) a)
 
-    pub resample-serves : (t : Resampled) (dst' : List ℕ) → FramesOf f.channels xs → Processed made (state_after r st.memory.resampler xs) dst dst' t
+    pub resample_serves : (t : Resampled) (dst' : List ℕ) → FramesOf f.channels xs → Processed made (state_after r st.memory.resampler xs) dst dst' t
         → Serves f st (record { kind = kind.Resample r; memory = record { filter = st.memory.filter; resampler = t.state } }) xs (t.frames * (f.channels * 2)) dst dst'
-    resample-serves t dst' a p =
+    resample_serves t dst' a p =
         serves _ (bytes_of made) dst' (t.frames * (f.channels * 2))
         (ap (λ (s : ResamplerState). record { kind = kind.Resample r; memory = record { filter = st.memory.filter; resampler = s } }) p.state_is ∙ sym (next_is st xs (kind.Resample r) e))
         (ap bytes_of (sym (out_is st xs (kind.Resample r) e)))
         (ap (λ (n : ℕ). n * (f.channels * 2)) p.frames_are ∙ sym (made_bytes a)) p.bytes_are
 
-    pub resample-fits : (t : Resampled) (dst' : List ℕ) → Processed made (state_after r st.memory.resampler xs) dst dst' t → t.frames * (f.channels * 2) ≤ length dst
-    resample-fits t dst' p = subst (λ (n : ℕ). n * (f.channels * 2) ≤ length dst) (sym p.frames_are) made-room
+    pub resample_fits : (t : Resampled) (dst' : List ℕ) → Processed made (state_after r st.memory.resampler xs) dst dst' t → t.frames * (f.channels * 2) ≤ length dst
+    resample_fits t dst' p = subst (λ (n : ℕ). n * (f.channels * 2) ≤ length dst) (sym p.frames_are) made_room

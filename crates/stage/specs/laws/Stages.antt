@@ -6,7 +6,7 @@ use Rattle.filters.specs.declared.FilterMemory.{FilterMemory}
 use Rattle.pcm.specs.Frames.{Frame, flat}
 use Rattle.pcm.specs.laws.Frames.{map_append, flat_append}
 use Rattle.filters.specs.Filters.{taps_of}
-use Rattle.filters.specs.laws.Filters.{filtered-append_memory, memory_next-append, filter_clipped-append_memory, filter_clipped_le}
+use Rattle.filters.specs.laws.Filters.{filtered_append_memory, memory_next-append, filter_clipped_append_memory, filter_clipped_le}
 use Rattle.gain.specs.Gain.{scaled}
 use Rattle.gain.specs.Clipping.{clipped_in}
 use Rattle.gain.specs.laws.Clipping.{clipped-nil, clipped-append, clipped_le}
@@ -56,21 +56,21 @@ module _ (m : SoundMemory) where
   clipped_most xs (kind.Biquad b) = filter_clipped_le (biquad_tick b.coefficients) (taps_of m.filter) xs
 
   module _ (xs ys : List Frame) where
-    clipped-parts : (k : StageKind) → clipped_of k m (xs ++ ys) ≡ clipped_of k m xs + clipped_of k (keeps_of k m xs) ys
-    clipped-parts (kind.Gain g) = ap (clipped_in g.q15) (flat_append xs ys) ∙ clipped-append g.q15 (flat xs) (flat ys)
-    clipped-parts kind.MonoToStereo = refl
-    clipped-parts kind.StereoToMono = refl
-    clipped-parts (kind.Resample r) = refl
-    clipped-parts (kind.DcBlock b) = filter_clipped-append_memory (dc_tick b.r) m.filter xs ys
-    clipped-parts (kind.Biquad b) = filter_clipped-append_memory (biquad_tick b.coefficients) m.filter xs ys
+    clipped_parts : (k : StageKind) → clipped_of k m (xs ++ ys) ≡ clipped_of k m xs + clipped_of k (keeps_of k m xs) ys
+    clipped_parts (kind.Gain g) = ap (clipped_in g.q15) (flat_append xs ys) ∙ clipped-append g.q15 (flat xs) (flat ys)
+    clipped_parts kind.MonoToStereo = refl
+    clipped_parts kind.StereoToMono = refl
+    clipped_parts (kind.Resample r) = refl
+    clipped_parts (kind.DcBlock b) = filter_clipped_append_memory (dc_tick b.r) m.filter xs ys
+    clipped_parts (kind.Biquad b) = filter_clipped_append_memory (biquad_tick b.coefficients) m.filter xs ys
 
     out-append : (k : StageKind) → out_of k m (xs ++ ys) ≡ out_of k m xs ++ out_of k (keeps_of k m xs) ys
     out-append (kind.Gain g) = map_append (map (scaled g.q15)) xs ys
     out-append kind.MonoToStereo = map_append doubled xs ys
     out-append kind.StereoToMono = map_append mixdown xs ys
     out-append (kind.Resample r) = resampled-append r m.resampler xs ys
-    out-append (kind.DcBlock b) = filtered-append_memory (dc_tick b.r) m.filter xs ys
-    out-append (kind.Biquad b) = filtered-append_memory (biquad_tick b.coefficients) m.filter xs ys
+    out-append (kind.DcBlock b) = filtered_append_memory (dc_tick b.r) m.filter xs ys
+    out-append (kind.Biquad b) = filtered_append_memory (biquad_tick b.coefficients) m.filter xs ys
 
     keeps-append : (k : StageKind) → keeps_of k m (xs ++ ys) ≡ keeps_of k (keeps_of k m xs) ys
     keeps-append (kind.Gain g) = refl
@@ -104,7 +104,7 @@ module _ (s : Stage) where
 
   pub stage_clipped-append : (xs ys : List Frame) → stage_clipped s (xs ++ ys) ≡ stage_clipped s xs + stage_clipped (stage_next s xs) ys
   unfolding stage_clipped stage_next
-  stage_clipped-append xs ys = clipped-parts s.memory xs ys s.kind
+  stage_clipped-append xs ys = clipped_parts s.memory xs ys s.kind
 
   pub stage_clipped_le : (xs : List Frame) → stage_clipped s xs ≤ length (flat xs)
   unfolding stage_clipped

@@ -13,23 +13,23 @@ use Rattle.stage_words.proofs.put_state.Statement.{statement}
 use Rattle.stage_words.proofs.put_state.Tie as tie
 
 -- both samples, and their bits
-left-fits : (c : tie.After-right-1) → SFits w16 (get_or c.args.s.last 0 (pos 0))
-left-fits c = record { sfits = c.left-1.given }
+left_fits : (c : tie.After-right-1) → SFits w16 (get_or c.args.s.last 0 (pos 0))
+left_fits c = record { sfits = c.left-1.given }
 
-right-fits : (c : tie.After-right-1) → SFits w16 (get_or c.args.s.last 1 (pos 0))
-right-fits c = record { sfits = c.right-1.given }
+right_fits : (c : tie.After-right-1) → SFits w16 (get_or c.args.s.last 1 (pos 0))
+right_fits c = record { sfits = c.right-1.given }
 
-left-bits : (c : tie.After-sample_bits) → c.sample_bits.result ≡ of_z w16 (get_or c.args.s.last 0 (pos 0))
-left-bits c = c.sample_bits.ensures ∙ ap (of_z w16) (read_back (left-fits c.before))
+left_bits : (c : tie.After-sample_bits) → c.sample_bits.result ≡ of_z w16 (get_or c.args.s.last 0 (pos 0))
+left_bits c = c.sample_bits.ensures ∙ ap (of_z w16) (read_back (left_fits c.before))
 
-right-bits : (c : tie.After-sample_bits-2) → c.sample_bits-2.result ≡ of_z w16 (get_or c.args.s.last 1 (pos 0))
-right-bits c = c.sample_bits-2.ensures ∙ ap (of_z w16) (read_back (right-fits c.before.before))
+right_bits : (c : tie.After-sample_bits-2) → c.sample_bits-2.result ≡ of_z w16 (get_or c.args.s.last 1 (pos 0))
+right_bits c = c.sample_bits-2.ensures ∙ ap (of_z w16) (read_back (right_fits c.before.before))
 
 mul-w : tie.Need-overflow_mul-w
-mul-w c = omega (arith, right-bits c, (Fits-of_z (right-fits c.before.before)).fits)
+mul-w c = omega (arith, right_bits c, (Fits-of_z (right_fits c.before.before)).fits)
 
 add-w : tie.Need-overflow_add-w
-add-w c = omega (arith, right-bits c, (Fits-of_z (right-fits c.before.before)).fits, left-bits c.before, (Fits-of_z (left-fits c.before.before)).fits)
+add-w c = omega (arith, right_bits c, (Fits-of_z (right_fits c.before.before)).fits, left_bits c.before, (Fits-of_z (left_fits c.before.before)).fits)
 
 returns : tie.Need-returns
 unfolding state_words
@@ -37,7 +37,7 @@ returns c =
     let b = c.before.before in
     let s = b.before.before.before.before.before.before in
     let two : length c.args.s.last ≡ 2 = search rules in
-    (rw (left-bits b.before, right-bits b, c.flag.ensures), record { places = two; left = left-fits b.before.before; right = right-fits b.before.before })
+    (rw (left_bits b.before, right_bits b, c.flag.ensures), record { places = two; left = left_fits b.before.before; right = right_fits b.before.before })
 
 pub put_state_spec : {M : Type 1} → statement M
 put_state_spec = tie.close (tie.spec

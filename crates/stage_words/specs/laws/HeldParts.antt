@@ -62,15 +62,15 @@ module _ (w : List ℕ) (k : ℕ) (fits : k + 18 ≤ length w) where
       rw (at 0 (omega arith), at 1 (omega arith), at 2 (omega arith)) (state_back s h p)
 
   module _ (m : SoundMemory) (xs : List Frame) (p : m.resampler.phase < 4294967296) where
-    filter-held : HeldFilter m.filter → m.resampler ≡ state_of (drop k w) → memory_of (drop k (sets w (k + 7) (filter_words m.filter))) ≡ m
+    filter_held : HeldFilter m.filter → m.resampler ≡ state_of (drop k w) → memory_of (drop k (sets w (k + 7) (filter_words m.filter))) ≡ m
     unfolding filter_words
-    filter-held h e =
+    filter_held h e =
         ap₂ (λ (x : FilterMemory) (y : ResamplerState). record { filter = x; resampler = y })
         (filter_written m.filter h)
         (state_same (drop k (sets w (k + 7) (filter_words m.filter))) (drop k w) (λ j l n. above_run (filter_words m.filter) w k 7 j 0 (omega arith)) ∙ sym e)
 
-    state-held : TwoSamples m.resampler.last → m.filter ≡ filter_of (drop k w) → memory_of (drop k (sets w (k + 15) (state_words m.resampler))) ≡ m
-    state-held h e =
+    state_held : TwoSamples m.resampler.last → m.filter ≡ filter_of (drop k w) → memory_of (drop k (sets w (k + 15) (state_words m.resampler))) ≡ m
+    state_held h e =
         ap₂ (λ (x : FilterMemory) (y : ResamplerState). record { filter = x; resampler = y })
         (filter_same (drop k (sets w (k + 15) (state_words m.resampler))) (drop k w) (λ j l n. below_run (state_words m.resampler) w k 15 j 0 (omega arith)) ∙ sym e)
         (state_written m.resampler h p)
@@ -80,15 +80,15 @@ module _ (w : List ℕ) (k : ℕ) (fits : k + 18 ≤ length w) where
     memory_held (kind.Gain g) e h = sym e
     memory_held kind.MonoToStereo e h = sym e
     memory_held kind.StereoToMono e h = sym e
-    memory_held (kind.Resample r) e h = state-held h (ap (λ (x : SoundMemory). x.filter) e)
-    memory_held (kind.DcBlock d) e h = filter-held h (ap (λ (x : SoundMemory). x.resampler) e)
-    memory_held (kind.Biquad b) e h = filter-held h (ap (λ (x : SoundMemory). x.resampler) e)
+    memory_held (kind.Resample r) e h = state_held h (ap (λ (x : SoundMemory). x.filter) e)
+    memory_held (kind.DcBlock d) e h = filter_held h (ap (λ (x : SoundMemory). x.resampler) e)
+    memory_held (kind.Biquad b) e h = filter_held h (ap (λ (x : SoundMemory). x.resampler) e)
 
     -- the stage has moved over xs to the memory m, and what its kind remembers of m was written
-    pub held-written : record { kind = (stage_of (drop k w)).kind; memory = m } ≡ stage_next (stage_of (drop k w)) xs → HeldBy (stage_of (drop k w)).kind m
+    pub held_written : record { kind = (stage_of (drop k w)).kind; memory = m } ≡ stage_next (stage_of (drop k w)) xs → HeldBy (stage_of (drop k w)).kind m
         → stage_of (drop k (sets w (k + held_at (stage_of (drop k w)).kind) (held_words (stage_of (drop k w)).kind m))) ≡ record { kind = (stage_of (drop k w)).kind; memory = m }
     unfolding stage_next
-    held-written e h =
+    held_written e h =
         let q : StageKind = (stage_of (drop k w)).kind in
         let after : List ℕ = drop k (sets w (k + held_at (stage_of (drop k w)).kind) (held_words (stage_of (drop k w)).kind m)) in
         ap₂ (λ (x : StageKind) (y : SoundMemory). record { kind = x; memory = y })

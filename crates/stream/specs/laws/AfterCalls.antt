@@ -32,7 +32,7 @@ use Rattle.stream.specs.PlainEnd.{plain_end, plain_finish}
 use Rattle.stream.specs.laws.PlainEnd.{chain_end_is_plain, end_room_is_plain}
 use Rattle.stream.specs.Stream.{Stream, running, ended, fed, within, ended_by, after_feeding, stream_from, stream_of, after_calls, run_of}
 use Rattle.stream.specs.FromChain.{Since, EndedSince}
-use Rattle.stream.specs.laws.FromChain.{begun, after-reset, after-block, finish-accepted, finish-refused, anew, as_before}
+use Rattle.stream.specs.laws.FromChain.{begun, after_reset, after_block, finish_accepted, finish_refused, anew, as_before}
 
 module _ (o : Pipeline) (opened : FreshlyOpened o) where
   -- the chain as opened
@@ -47,36 +47,36 @@ module _ (o : Pipeline) (opened : FreshlyOpened o) where
 
   -- ---- a stream that goes on
   module _ {X : List Frame} {r : Run} (v : Since o X r) where
-    pub state-plain : stages_of r.chain ≡ plain_state (kinds_in o) X
-    state-plain = v.moved.stages ∙ ap (λ (l : List Stage). chain_next l X) as_opened ∙ state_is_plain (kinds_in o) X
+    pub state_plain : stages_of r.chain ≡ plain_state (kinds_in o) X
+    state_plain = v.moved.stages ∙ ap (λ (l : List Stage). chain_next l X) as_opened ∙ state_is_plain (kinds_in o) X
 
-    pub output-plain : r.joined ≡ bytes_of (plain_out (kinds_in o) X)
-    output-plain = v.output ∙ ap bytes_of (ap (λ (l : List Stage). chain_out l X) as_opened ∙ chain_is_plain (kinds_in o) X)
+    pub output_plain : r.joined ≡ bytes_of (plain_out (kinds_in o) X)
+    output_plain = v.output ∙ ap bytes_of (ap (λ (l : List Stage). chain_out l X) as_opened ∙ chain_is_plain (kinds_in o) X)
 
-    pub clipped-plain : r.clipped ≡ plain_clips (kinds_in o) X
-    clipped-plain = v.clipped ∙ ap (λ (l : List Stage). chain_clipped l X) as_opened ∙ clips_are_plain (kinds_in o) X
+    pub clipped_plain : r.clipped ≡ plain_clips (kinds_in o) X
+    clipped_plain = v.clipped ∙ ap (λ (l : List Stage). chain_clipped l X) as_opened ∙ clips_are_plain (kinds_in o) X
 
-    pub verdict-plain : (format : PcmFormat) (bytes a b : List ℕ)
+    pub verdict_plain : (format : PcmFormat) (bytes a b : List ℕ)
         → block_verdict r.chain format (length bytes) (shorter a b) ≡ plain_verdict o.format (kinds_in o) X format bytes (shorter a b)
     unfolding legal
-    verdict-plain format bytes a b =
+    verdict_plain format bytes a b =
         let p = both (leb o.count 8) _ opened.lawful in
         let q = both (format_allowed o.format) _ p.1 in
-        verdict_is_plain r.chain o.format (kinds_in o) X (ap (λ (n : ℕ). leb n 8) v.moved.count ∙ p.0) q.0 suit v.moved.format state-plain format bytes (shorter a b)
+        verdict_is_plain r.chain o.format (kinds_in o) X (ap (λ (n : ℕ). leb n 8) v.moved.count ∙ p.0) q.0 suit v.moved.format state_plain format bytes (shorter a b)
 
-    pub legal-since : legal r.chain ≡ true
+    pub legal_since : legal r.chain ≡ true
     unfolding legal
-    legal-since =
+    legal_since =
         let p = both (leb o.count 8) _ opened.lawful in
         let q = both (format_allowed o.format) _ p.1 in
-        rw (state-plain, v.moved.count, p.0, v.moved.format, q.0) (suited_still o.format (kinds_in o) X suit)
+        rw (state_plain, v.moved.count, p.0, v.moved.format, q.0) (suited_still o.format (kinds_in o) X suit)
 
-    pub finish-plain : (a b : List ℕ) → finish_verdict r.chain (shorter a b) ≡ plain_finish o.format (kinds_in o) X (shorter a b)
+    pub finish_plain : (a b : List ℕ) → finish_verdict r.chain (shorter a b) ≡ plain_finish o.format (kinds_in o) X (shorter a b)
     unfolding finish_verdict
-    finish-plain a b =
+    finish_plain a b =
         let e : end_verdict r.chain.format (stages_of r.chain) 0 (shorter a b) ≡ end_verdict o.format (plain_state (kinds_in o) X) 0 (shorter a b) =
-        ap₂ (λ (f : PcmFormat) (l : List Stage). end_verdict f l 0 (shorter a b)) v.moved.format state-plain in
-        rw (legal-since, e)
+        ap₂ (λ (f : PcmFormat) (l : List Stage). end_verdict f l 0 (shorter a b)) v.moved.format state_plain in
+        rw (legal_since, e)
         (end_room_is_plain o.format (kinds_in o) X [] (shorter a b) suit (legal_parts o opened.lawful).channels (subst (FramesOf o.format.channels) (sym (append-nil X)) v.frames))
 
   -- ---- a stream that has ended
@@ -105,13 +105,13 @@ module _ (o : Pipeline) (opened : FreshlyOpened o) where
 
   pub after_call_lem : (X : List Frame) (r : Run) (call : Call) → Since o X r → Lent call → Stands (after_feeding o X call) (after_call r call)
   after_call_lem X r (block format t bytes a b) v lent =
-      after-block o opened.places few X r v format t bytes a b lent (plain_verdict o.format (kinds_in o) X format bytes (shorter a b)) (verdict-plain v format bytes a b)
-  after_call_lem X r reset v lent = as_before o opened.places few opened.silent (after-reset o opened.places few X r v)
-  after_call_lem X r (finish a b) v lent = go (plain_finish o.format (kinds_in o) X (shorter a b)) (finish-plain v a b)
+      after_block o opened.places few X r v format t bytes a b lent (plain_verdict o.format (kinds_in o) X format bytes (shorter a b)) (verdict_plain v format bytes a b)
+  after_call_lem X r reset v lent = as_before o opened.places few opened.silent (after_reset o opened.places few X r v)
+  after_call_lem X r (finish a b) v lent = go (plain_finish o.format (kinds_in o) X (shorter a b)) (finish_plain v a b)
     where
       go : (w : Verdict) → finish_verdict r.chain (shorter a b) ≡ w → Stands (ended_by w X) (after_call r (finish a b))
-      go Accepted h = finish-accepted o opened.places few X r v a b h
-      go (Refused e) h = finish-refused o opened.places few X r v a b e h
+      go Accepted h = finish_accepted o opened.places few X r v a b h
+      go (Refused e) h = finish_refused o opened.places few X r v a b e h
 
   after_calls_lem : (S : Stream) (r : Run) (calls : List Call) → Stands S r → All Lent calls → Stands (stream_from o S calls) (after_calls o S r calls)
   after_calls_lem S r [] v lent = v

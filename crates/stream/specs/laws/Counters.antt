@@ -25,7 +25,7 @@ use Rattle.stream.specs.Opened.{kinds_in, FreshlyOpened}
 use Rattle.stream.specs.PlainRoom.{plain_verdict}
 use Rattle.stream.specs.Stream.{Stream, fed, within, after_feeding, after_calls}
 use Rattle.stream.specs.FromChain.{Since}
-use Rattle.stream.specs.laws.AfterCalls.{Stands, verdict-plain, stands_within, after_call_lem}
+use Rattle.stream.specs.laws.AfterCalls.{Stands, verdict_plain, stands_within, after_call_lem}
 use Rattle.stream.specs.Counters.{held_count, one_if_accepted, accepted_by, accepted_from, one_if_nothing, nothing_by, nothing_from}
 
 -- ---- one call
@@ -101,8 +101,8 @@ module _ (o : Pipeline) (opened : FreshlyOpened o) where
       go : (w : Verdict) → block_verdict r.chain format (length bytes) (shorter a b) ≡ w
           → (concluded (block_verdict r.chain format (length bytes) (shorter a b)) r.chain t bytes (record { a = a; b = b })).chain.blocks
           ≡ held_count (n + one_if_accepted (plain_verdict o.format (kinds_in o) X format bytes (shorter a b)))
-      go (Refused x) h = rw (← verdict-plain o opened v format bytes a b, h, add-zero) e
-      go Accepted h = rw (← verdict-plain o opened v format bytes a b, h) (ap counted_up e ∙ one_more n)
+      go (Refused x) h = rw (← verdict_plain o opened v format bytes a b, h, add-zero) e
+      go Accepted h = rw (← verdict_plain o opened v format bytes a b, h) (ap counted_up e ∙ one_more n)
   counted_call X r reset n v e = rw add-zero ((reset_counters r.chain).0 ∙ e)
   counted_call X r (finish a b) n v e = rw add-zero ((finish_counters r.chain a b).0 ∙ e)
 

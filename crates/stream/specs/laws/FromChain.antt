@@ -25,7 +25,7 @@ use Rattle.finish.specs.laws.ChainEnd.{chain_ends, end_clips}
 use Rattle.stream.specs.Calls.{block, reset, finish, Run, fresh, joined_by, finished_by, after_call}
 use Rattle.stream.specs.Stream.{added_by}
 use Rattle.stream.specs.OneCall.{Moved}
-use Rattle.stream.specs.laws.OneCall.{accepted-moves, accepted-output, accepted-clipped, reset_moves, finished_output, finished_clipped, finished_moves}
+use Rattle.stream.specs.laws.OneCall.{accepted_moves, accepted_output, accepted_clipped, reset_moves, finished_output, finished_clipped, finished_moves}
 use Rattle.stream.specs.FromChain.{Since, EndedSince}
 
 -- ---- chains that move on
@@ -73,24 +73,24 @@ module _ (o : Pipeline) (places : length o.stages ≡ 8) (few : o.count ≤ 8) w
   cleared_begins d p = begun_with (reset_call o) d (moved_as (sym (reset_stages o few)) (moved_beside (reset_moves o places few) p))
 
   module _ (X : List Frame) (r : Run) (v : Since o X r) where
-    still-few : r.chain.count ≤ 8
-    still-few = omega (arith, few, v.moved.count)
+    still_few : r.chain.count ≤ 8
+    still_few = omega (arith, few, v.moved.count)
 
     -- ---- reset
-    clear-moves : Moved o (reset_call r.chain) (map stage_clear (stages_of o))
-    clear-moves =
-        moved_as (ap (map stage_clear) v.moved.stages ∙ chain_clear_next (stages_of o) X) (moves_on v.moved (reset_moves r.chain v.moved.places still-few))
+    clear_moves : Moved o (reset_call r.chain) (map stage_clear (stages_of o))
+    clear_moves =
+        moved_as (ap (map stage_clear) v.moved.stages ∙ chain_clear_next (stages_of o) X) (moves_on v.moved (reset_moves r.chain v.moved.places still_few))
 
-    pub after-reset : Since (reset_call o) [] (after_call r reset)
-    after-reset = cleared_begins (reset_call r.chain) clear-moves
+    pub after_reset : Since (reset_call o) [] (after_call r reset)
+    after_reset = cleared_begins (reset_call r.chain) clear_moves
 
     -- ---- a finish
     module _ (a b : List ℕ) where
-      after-accepted-finish : EndedSince o X (finished_by r (finished r.chain (record { a = a; b = b })))
-      after-accepted-finish = record {
+      after_accepted_finish : EndedSince o X (finished_by r (finished r.chain (record { a = a; b = b })))
+      after_accepted_finish = record {
         output =
             ap₂ (λ (u w : List ℕ). u ++ w) v.output
-            (finished_output r.chain v.moved.places still-few a b ∙ ap₂ (λ (f : PcmFormat) (l : List Stage). bytes_of (chain_end f l [])) v.moved.format v.moved.stages)
+            (finished_output r.chain v.moved.places still_few a b ∙ ap₂ (λ (f : PcmFormat) (l : List Stage). bytes_of (chain_end f l [])) v.moved.format v.moved.stages)
             ∙ sym (bytes-append (chain_out (stages_of o) X) (chain_end o.format (chain_next (stages_of o) X) [])) ∙ ap bytes_of (chain_ends o.format (stages_of o) X);
         clipped =
             ap₂ (λ (n m : ℕ). n + m) v.clipped
@@ -98,44 +98,44 @@ module _ (o : Pipeline) (places : length o.stages ≡ 8) (few : o.count ≤ 8) w
             ∙ end_clips o.format (stages_of o) X;
         moved =
             moved_as (ap (map stage_clear) v.moved.stages ∙ chain_clear_next (stages_of o) X)
-            (moves_on v.moved (finished_moves r.chain v.moved.places still-few a b));
+            (moves_on v.moved (finished_moves r.chain v.moved.places still_few a b));
         frames = v.frames;
       }
 
-      pub finish-accepted : finish_verdict r.chain (shorter a b) ≡ Accepted → EndedSince o X (after_call r (finish a b))
+      pub finish_accepted : finish_verdict r.chain (shorter a b) ≡ Accepted → EndedSince o X (after_call r (finish a b))
       unfolding finish_call
-      finish-accepted h = rw h after-accepted-finish
+      finish_accepted h = rw h after_accepted_finish
 
-      pub finish-refused : (e : Error) → finish_verdict r.chain (shorter a b) ≡ Refused e → Since o X (after_call r (finish a b))
+      pub finish_refused : (e : Error) → finish_verdict r.chain (shorter a b) ≡ Refused e → Since o X (after_call r (finish a b))
       unfolding finish_call
-      finish-refused e h = rw (h, append-nil, add-zero) v
+      finish_refused e h = rw (h, append-nil, add-zero) v
 
     -- ---- a block
     module _ (format : PcmFormat) (t : ℕ) (bytes a b : List ℕ) (lent : Bytes bytes) where
       abbrev Y : List Frame
       Y = frames_of o.format.channels bytes
 
-      after-accepted : Accepts r.chain bytes a b → Since o (X ++ Y) (joined_by r (accepted r.chain t bytes (record { a = a; b = b })))
-      after-accepted w =
+      after_accepted : Accepts r.chain bytes a b → Since o (X ++ Y) (joined_by r (accepted r.chain t bytes (record { a = a; b = b })))
+      after_accepted w =
           let y : frames_of r.chain.format.channels bytes ≡ Y = ap (λ (f : PcmFormat). frames_of f.channels bytes) v.moved.format in
           record {
             output =
-                ap₂ (λ (u w : List ℕ). u ++ w) v.output (accepted-output r.chain v.moved.places t bytes a b w lent ∙ ap bytes_of (ap₂ chain_out v.moved.stages y))
+                ap₂ (λ (u w : List ℕ). u ++ w) v.output (accepted_output r.chain v.moved.places t bytes a b w lent ∙ ap bytes_of (ap₂ chain_out v.moved.stages y))
                 ∙ sym (ap bytes_of (chain_out-append (stages_of o) X Y) ∙ bytes-append (chain_out (stages_of o) X) (chain_out (chain_next (stages_of o) X) Y));
             clipped =
-                ap₂ (λ (n m : ℕ). n + m) v.clipped (accepted-clipped r.chain v.moved.places t bytes a b w ∙ ap₂ chain_clipped v.moved.stages y)
+                ap₂ (λ (n m : ℕ). n + m) v.clipped (accepted_clipped r.chain v.moved.places t bytes a b w ∙ ap₂ chain_clipped v.moved.stages y)
                 ∙ sym (chain_clipped-append (stages_of o) X Y);
-            moved = moved_as (ap₂ chain_next v.moved.stages y ∙ sym (chain_next-append (stages_of o) X Y)) (moves_on v.moved (accepted-moves r.chain v.moved.places t bytes a b w));
+            moved = moved_as (ap₂ chain_next v.moved.stages y ∙ sym (chain_next-append (stages_of o) X Y)) (moves_on v.moved (accepted_moves r.chain v.moved.places t bytes a b w));
             frames = all_append (FrameOf o.format.channels) X Y v.frames (frames_are_frames o.format.channels bytes lent);
           }
 
-      after-refused : Since o (X ++ []) (record { chain = r.chain; joined = r.joined ++ []; clipped = r.clipped + 0 })
-      after-refused = rw (append-nil, append-nil, add-zero) v
+      after_refused : Since o (X ++ []) (record { chain = r.chain; joined = r.joined ++ []; clipped = r.clipped + 0 })
+      after_refused = rw (append-nil, append-nil, add-zero) v
 
-      pub after-block : (w : Verdict) → block_verdict r.chain format (length bytes) (shorter a b) ≡ w → Since o (X ++ added_by w Y) (after_call r (block format t bytes a b))
+      pub after_block : (w : Verdict) → block_verdict r.chain format (length bytes) (shorter a b) ≡ w → Since o (X ++ added_by w Y) (after_call r (block format t bytes a b))
       unfolding block_call
-      after-block (Refused e) h = rw h after-refused
-      after-block Accepted h = rw h (after-accepted (accepts r.chain format bytes a b h))
+      after_block (Refused e) h = rw h after_refused
+      after_block Accepted h = rw h (after_accepted (accepts r.chain format bytes a b h))
 
   -- ---- after a finish a stream begins as after a reset
   pub anew : (X : List Frame) (r : Run) → EndedSince o X r → Since (reset_call o) [] (fresh r.chain)

@@ -36,10 +36,10 @@ use Rattle.stream.specs.OneCall.{side_of, side, Moved}
 put_side : (i n : ℕ) (out : List ℕ) (h : Halves) → n ≡ length out → take n (side i (put i out h)) ≡ out
 put_side i n out h e = go (eqb (i % 2) 0)
   where
-    put-by : Bool → Halves
-    put-by t = cond t (record { a = written out h.a; b = h.b }) (record { a = h.a; b = written out h.b })
+    put_by : Bool → Halves
+    put_by t = cond t (record { a = written out h.a; b = h.b }) (record { a = h.a; b = written out h.b })
 
-    go : (t : Bool) → take n (cond t (put-by t).a (put-by t).b) ≡ out
+    go : (t : Bool) → take n (cond t (put_by t).a (put_by t).b) ≡ out
     go true = front_written out h.a n e
     go false = front_written out h.b n e
 
@@ -128,9 +128,9 @@ module _ (c : Pipeline) (eight : length c.stages ≡ 8) where
     pub few : c.count ≤ 8
     few = (legal_parts c w.chain).few
 
-    pub accepted-moves : Moved c (accepted c t block (record { a = a; b = b })).chain (chain_next (stages_of c) xs)
+    pub accepted_moves : Moved c (accepted c t block (record { a = a; b = b })).chain (chain_next (stages_of c) xs)
     unfolding accepted
-    accepted-moves =
+    accepted_moves =
         let n : length (chain_next (stages_of c) xs) ≡ length (stages_of c) = length_chain_next (stages_of c) xs in
         record {
           stages = kept_stages c few eight (chain_next (stages_of c) xs) n;
@@ -140,17 +140,17 @@ module _ (c : Pipeline) (eight : length c.stages ≡ 8) where
           places = kept_eight c few eight (chain_next (stages_of c) xs) n;
         }
 
-    pub accepted-output : Bytes block → call_output (accepted c t block (record { a = a; b = b })) ≡ bytes_of (chain_out (stages_of c) xs)
+    pub accepted_output : Bytes block → call_output (accepted c t block (record { a = a; b = b })) ≡ bytes_of (chain_out (stages_of c) xs)
     unfolding accepted
-    accepted-output bytes =
+    accepted_output bytes =
         let r : Result = accepted c t block (record { a = a; b = b }) in
         let n : c.count ≡ length (stages_of c) = sym (length-take-le c.count c.stages (omega (arith, few))) in
         output_is (bytes_of (chain_out (stages_of c) xs)) (format_leaving c.format (stages_of c)) t (last_half c.count) _ r refl
         (half_holds (stages_of c) c.count xs block (record { a = a; b = b }) n (bytes_frames c.format.channels block w.whole bytes))
 
-    pub accepted-clipped : clipped_by (accepted c t block (record { a = a; b = b })).answer ≡ chain_clipped (stages_of c) xs
+    pub accepted_clipped : clipped_by (accepted c t block (record { a = a; b = b })).answer ≡ chain_clipped (stages_of c) xs
     unfolding accepted
-    accepted-clipped = go (eqb (output_bytes c block) 0)
+    accepted_clipped = go (eqb (output_bytes c block) 0)
       where
         go : (none : Bool) → clipped_by (cond none (answer.NothingYet (block_clipped c block)) (answer.Output (format_leaving c.format (stages_of c)) t (last_half c.count) (output_bytes c block) (block_clipped c block))) ≡ block_clipped c block
         go true = refl

@@ -68,21 +68,21 @@ module _ (o : Pipeline) (opened : FreshlyOpened o) where
 
   -- the part of it that the chain as it stands has yet to deliver
   module _ {X : List Frame} {r : Run} (v : Since o X r) where
-    same-leaving : format_leaving r.chain.format (stages_of r.chain) ≡ format_leaving o.format (stages_of o)
-    same-leaving = ap₂ format_leaving v.moved.format v.moved.stages ∙ leaving_next o.format (stages_of o) X
+    same_leaving : format_leaving r.chain.format (stages_of r.chain) ≡ format_leaving o.format (stages_of o)
+    same_leaving = ap₂ format_leaving v.moved.format v.moved.stages ∙ leaving_next o.format (stages_of o) X
 
     leaves : (xs : List Frame) → FramesOf r.chain.format.channels xs → FramesOf (format_leaving r.chain.format (stages_of r.chain)).channels (chain_out (stages_of r.chain) xs)
     leaves xs a =
         let b : FramesOf o.format.channels xs = subst (λ (f : PcmFormat). FramesOf f.channels xs) v.moved.format a in
         let e : FramesOf leaving (chain_out (stages_of o) X ++ chain_out (chain_next (stages_of o) X) xs) =
         subst (FramesOf leaving) (chain_out-append (stages_of o) X xs) (whole_leaves (X ++ xs) (all_append (FrameOf o.format.channels) X xs v.frames b)) in
-        rw (same-leaving, v.moved.stages) (frames_after leaving (chain_out (stages_of o) X) _ e)
+        rw (same_leaving, v.moved.stages) (frames_after leaving (chain_out (stages_of o) X) _ e)
 
     ends : FramesOf (format_leaving r.chain.format (stages_of r.chain)).channels (chain_end r.chain.format (stages_of r.chain) [])
     ends =
         let e : FramesOf leaving (chain_out (stages_of o) X ++ chain_end o.format (chain_next (stages_of o) X) []) =
         subst (FramesOf leaving) (sym (chain_ends o.format (stages_of o) X)) (whole_ends X v.frames) in
-        rw (same-leaving, v.moved.stages, v.moved.format) (frames_after leaving (chain_out (stages_of o) X) _ e)
+        rw (same_leaving, v.moved.stages, v.moved.format) (frames_after leaving (chain_out (stages_of o) X) _ e)
 
     pub sounding : Sounding r.chain
     sounding = record { places = v.moved.places; leaving = leaves; ending = ends }

@@ -14,7 +14,7 @@ use Rattle.stream.specs.PlainEnd.{received_at_end}
 use Rattle.stream.specs.Stream.{Stream, running, ended, stream_of, run_of}
 use Rattle.stream.specs.laws.Resamplers.{received_frames, resampler_in_chain, received_at_end_frames, resampler_at_end}
 use Rattle.stream.specs.FromChain.{Since, EndedSince}
-use Rattle.stream.specs.laws.AfterCalls.{Stands, as_opened, suit, state-plain, output-plain, clipped-plain, end_state_plain, end_output_plain, end_clipped_plain, verdict-plain, finish-plain, stands_within, after_all}
+use Rattle.stream.specs.laws.AfterCalls.{Stands, as_opened, suit, state_plain, output_plain, clipped_plain, end_state_plain, end_output_plain, end_clipped_plain, verdict_plain, finish_plain, stands_within, after_all}
 use Rattle.stream.specs.WholeStream.{RunningStream, EndedStream, WholeStream}
 
 module _ (o : Pipeline) (opened : FreshlyOpened o) where
@@ -23,9 +23,9 @@ module _ (o : Pipeline) (opened : FreshlyOpened o) where
 
   running_stream : {X : List Frame} {r : Run} → Since o X r → RunningStream o X r
   running_stream {X} {r} v = record {
-    output = output-plain o opened v;
-    state = state-plain o opened v;
-    clipped = clipped-plain o opened v;
+    output = output_plain o opened v;
+    state = state_plain o opened v;
+    clipped = clipped_plain o opened v;
     frames = λ i. subst (λ (l : List Stage). FramesOf (format_leaving o.format (take i l)).channels (received_by i (kinds_in o) X)) (sym (as_opened o opened))
         (received_frames o.format (kinds_in o) X (suit o opened) two_channels v.frames i);
     resamplers = resampler_in_chain o.format (kinds_in o) X (suit o opened) two_channels v.frames opened.rates;
@@ -47,16 +47,16 @@ module _ (o : Pipeline) (opened : FreshlyOpened o) where
     count = v.moved.count;
     format = v.moved.format;
     spare = v.moved.spare;
-    questions = verdict-plain o opened v;
-    at_finish = finish-plain o opened v;
+    questions = verdict_plain o opened v;
+    at_finish = finish_plain o opened v;
   }
   whole (ended X) r v = record {
     compared = ended_stream v;
     count = v.moved.count;
     format = v.moved.format;
     spare = v.moved.spare;
-    questions = verdict-plain o opened (stands_within o opened (ended X) r v);
-    at_finish = finish-plain o opened (stands_within o opened (ended X) r v);
+    questions = verdict_plain o opened (stands_within o opened (ended X) r v);
+    at_finish = finish_plain o opened (stands_within o opened (ended X) r v);
   }
 
   pub whole_stream_of : (calls : List Call) → All Lent calls → WholeStream o (stream_of o calls) (run_of o calls)

@@ -7,7 +7,7 @@ use Prim.Native.Nat.{ℕ, ◌%◌, ◌≤◌}
 use native.Mathlib.Omega.{arith}
 use lib.Dec.{eqb}
 use lib.ListN.{length}
-use Rattle.turns.specs.laws.Playing.{biquad_turn_asks, biquad_turned, dc_turn_asks, dc_turned, gain_turn_asks, gain_turned, mono_turn_asks, mono_turned, resample-long, resample-turn-asks, resample-turned, stereo_long, stereo_turn_asks, stereo_turned}
+use Rattle.turns.specs.laws.Playing.{biquad_turn_asks, biquad_turned, dc_turn_asks, dc_turned, gain_turn_asks, gain_turned, mono_turn_asks, mono_turned, resample_long, resample_turn_asks, resample_turned, stereo_long, stereo_turn_asks, stereo_turned}
 use Rattle.turns.proofs.turn.Statement.{statement}
 use Rattle.turns.proofs.turn.Tie as tie
 
@@ -38,11 +38,11 @@ turn_spec = tie.close (tie.spec
     mono_turn_asks s.args.format s.args.s s.requires c.in-StereoToMono.is)
     (λ c. search rules) (λ c κs. search rules)
     (λ c κs. let m = c.before.before in let t = m.before in let s = start t.before in
-    resample-turn-asks s.args.format s.args.s s.requires _ _ c.in-Resample.is c.held_samples-held.ensures.0 c.held_samples-held.ensures.1)
+    resample_turn_asks s.args.format s.args.s s.requires _ _ c.in-Resample.is c.held_samples-held.ensures.0 c.held_samples-held.ensures.1)
     (λ c. search rules)
     (λ c. let d = c.before.before.before.before.before.before in let m = d.before.before.before in let t = m.before in let s = start t.before in
     ⊎_elim (λ l. record { fits = omega (arith, l, s.well_formed) }) (λ l. record { fits = omega (arith, l, s.well_formed) })
-    (either_half s.args.i _ s.args.a.now s.args.b.now (resample-long s.args.format s.args.s s.requires _ _ c.in-Resample.is c.held_samples-held.ensures.0 c.held_samples-held.ensures.1 c.resample_turn-t.result _ c.resample_turn-t.ensures)))
+    (either_half s.args.i _ s.args.a.now s.args.b.now (resample_long s.args.format s.args.s s.requires _ _ c.in-Resample.is c.held_samples-held.ensures.0 c.held_samples-held.ensures.1 c.resample_turn-t.result _ c.resample_turn-t.ensures)))
     (λ c. search rules)
     (λ c κs. let t = c.before.before in let s = start t.before in
     dc_turn_asks s.args.format s.args.s s.requires _ c.in-DcBlock.is)
@@ -60,7 +60,7 @@ turn_spec = tie.close (tie.spec
     mono_turned s.args.format s.args.s s.requires _ c.in-StereoToMono.is c.mono_turn.ensures)
     (λ c. search rules) (λ c. search rules)
     (λ c. let d = c.before.before.before.before.before.before in let m = d.before.before.before in let t = m.before in let s = start t.before in
-    resample-turned s.args.format s.args.s s.requires _ _ c.in-Resample.is c.held_samples-held.ensures.0 c.held_samples-held.ensures.1 c.resample_turn-t.result _ c.resample_turn-t.ensures)
+    resample_turned s.args.format s.args.s s.requires _ _ c.in-Resample.is c.held_samples-held.ensures.0 c.held_samples-held.ensures.1 c.resample_turn-t.result _ c.resample_turn-t.ensures)
     (λ c. search rules) (λ c. search rules)
     (λ c. let d = c.before.before.before.before.before in let t = d.before.before.before in let s = start t.before in
     dc_turned s.args.format s.args.s s.requires _ _ _ c.in-DcBlock.is c.dc_turn-t.ensures)

@@ -20,7 +20,7 @@ use Rattle.stage.specs.declared.StageKind.TheVariants as kind
 use Rattle.stage.specs.declared.SoundMemory.{SoundMemory}
 use Rattle.stage.specs.Stages.{stage_clipped}
 use Rattle.stage.specs.Rooms.{Held, Serves}
-use Rattle.stage.specs.laws.Serving.{clipped_is, gain_asks, gain_serves, gain_holds, stereo_asks, stereo_serves, mono_asks, mono_serves, dc_asks, dc_serves, biquad_asks, biquad_serves, resample-asks, resample-serves, resample-fits}
+use Rattle.stage.specs.laws.Serving.{clipped_is, gain_asks, gain_serves, gain_holds, stereo_asks, stereo_serves, mono_asks, mono_serves, dc_asks, dc_serves, biquad_asks, biquad_serves, resample_asks, resample_serves, resample_fits}
 use Rattle.turns.specs.Turns.{Halves, source_at, target_at, TurnAsks, TurnDoes, GainAsks, GainDoes, StereoAsks, StereoDoes, MonoAsks, MonoDoes, ResampleAsks, ResampleDoes, DcDoes, BiquadDoes, Takes, Makes}
 
 module _ (f : PcmFormat) (s : Stage) {i n : ℕ} {block : List ℕ} {h : Halves} (w : TurnAsks i n block h (Takes f s)) where
@@ -103,11 +103,11 @@ module _ (f : PcmFormat) (s : Stage) {i n : ℕ} {block : List ℕ} {h : Halves}
 
   -- ---- the resampler, from its state as it is handed on
   module _ (r : LinearResampler) (state : ResamplerState) (e : s.kind ≡ kind.Resample r) (same : state ≡ s.memory.resampler) (samples : Samples s.memory.resampler.last) where
-    pub resample-turn-asks : TurnAsks i n block h (ResampleAsks r state f.channels)
-    resample-turn-asks = record {
+    pub resample_turn_asks : TurnAsks i n block h (ResampleAsks r state f.channels)
+    resample_turn_asks = record {
       reads = w.reads;
       asks = subst (λ (t : ResamplerState). Ready f.channels r.in_r r.out_r (resampled r t (frames_of f.channels source)) source target) (sym same)
-          (resample-asks f s source target w.asks.0 (held_as _ e samples) r e);
+          (resample_asks f s source target w.asks.0 (held_as _ e samples) r e);
     }
 
     processed : (t : Resampled) (h' : Halves)
@@ -115,14 +115,14 @@ module _ (f : PcmFormat) (s : Stage) {i n : ℕ} {block : List ℕ} {h : Halves}
         → Processed (resampled r s.memory.resampler (frames_of f.channels source)) (state_after r s.memory.resampler (frames_of f.channels source)) target (target_at i h') t
     processed t h' d = subst (λ (u : ResamplerState). Processed (resampled r u (frames_of f.channels source)) (state_after r u (frames_of f.channels source)) target (target_at i h') t) same d.does
 
-    pub resample-turned : (t : Resampled) (h' : Halves)
+    pub resample_turned : (t : Resampled) (h' : Halves)
         → TurnDoes i n block h h' (ResampleDoes r state f.channels t)
         → Turned (record { filter = s.memory.filter; resampler = t.state }) (t.frames * (f.channels * 2)) 0 h'
-    resample-turned t h' d =
-        turned _ _ 0 h' (of_kind (kind.Resample r) _ (t.frames * (f.channels * 2)) (target_at i h') e (resample-serves f s source target w.asks.0 (held_as _ e samples) r e t (target_at i h') w.asks.1 (processed t h' d)))
+    resample_turned t h' d =
+        turned _ _ 0 h' (of_kind (kind.Resample r) _ (t.frames * (f.channels * 2)) (target_at i h') e (resample_serves f s source target w.asks.0 (held_as _ e samples) r e t (target_at i h') w.asks.1 (processed t h' d)))
         (sym (clipped_is s (frames_of f.channels source) (kind.Resample r) e)) _ d
 
-    pub resample-long : (t : Resampled) (h' : Halves)
+    pub resample_long : (t : Resampled) (h' : Halves)
         → TurnDoes i n block h h' (ResampleDoes r state f.channels t)
         → t.frames * (f.channels * 2) ≤ length target
-    resample-long t h' d = resample-fits f s source target w.asks.0 (held_as _ e samples) r e t (target_at i h') (processed t h' d)
+    resample_long t h' d = resample_fits f s source target w.asks.0 (held_as _ e samples) r e t (target_at i h') (processed t h' d)

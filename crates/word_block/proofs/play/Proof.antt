@@ -19,7 +19,7 @@ use Rattle.stage_words.specs.laws.HeldParts.{held_past, held_within}
 use Rattle.chain_words.specs.Layout.{counter_words, counter_at, chain_at}
 use Rattle.chain_words.specs.laws.Chains.{stands_long, stands_chain}
 use Rattle.word_block.proofs.Moved.{Moved, moved_none, moved_put}
-use Rattle.word_block.proofs.Placing.{copy_fits, asks_at, sum-at, plays-next, same_long, plays_begin, stays, plays-end}
+use Rattle.word_block.proofs.Placing.{copy_fits, asks_at, sum_at, plays_next, same_long, plays_begin, stays, plays_end}
 use Rattle.word_block.proofs.play.Statement.{statement}
 use Rattle.word_block.proofs.play.Tie as tie
 
@@ -90,7 +90,7 @@ loop-again c =
     let kind = c.kind_at-kind.result in
     let memory = c.turn-t.result.memory in
     record {
-      plays = plays-next w i _ _ c.kind_at-kind.ensures.0 c.memory_at-held.ensures.0 _ _ _ _ _ _ _ _ _ _ v.plays c.loop-i-test.true c.kind_at-kind.ensures.1 c.memory_at-held.ensures.1 v.long _ _ _ _ _
+      plays = plays_next w i _ _ c.kind_at-kind.ensures.0 c.memory_at-held.ensures.0 _ _ _ _ _ _ _ _ _ _ v.plays c.loop-i-test.true c.kind_at-kind.ensures.1 c.memory_at-held.ensures.1 v.long _ _ _ _ _
           c.turn-t.ensures c.format_after-reaching.ensures q.1 _ q.0 _ c.next_stage-i.ensures;
       moved = subst (Moved _) (sym q.0) (moved_put w i (held_at kind) (held_words kind memory) (held_past kind) (held_within kind memory) _ v.moved (omega (arith, v.used, c.loop-i-test.true)));
       used = v.used;
@@ -111,7 +111,7 @@ returns c =
     let k = known b in
     let a = (s k).args in
     let v = (l c).loop-i.invariant in (
-      plays-end a.words.now a.sound.now a.a.now a.b.now _ _ _ (takes k) (bytes k) (numbered b).count_of-count.ensures (formed b).format_of-own.ensures (copied b).copy_unstaged.ensures
+      plays_end a.words.now a.sound.now a.a.now a.b.now _ _ _ (takes k) (bytes k) (numbered b).count_of-count.ensures (formed b).format_of-own.ensures (copied b).copy_unstaged.ensures
           _ _ _ _ _ _ _ _ v.plays (done c).loop-i-test.false (s k).requires.0 v.moved (done c).count_block.ensures a.timestamp _ c.answered.ensures,
       stays a.words.now a.sound.now a.a.now a.b.now _ _ _ (takes k) (bytes k) (numbered b).count_of-count.ensures (formed b).format_of-own.ensures (copied b).copy_unstaged.ensures
           _ _ _ _ _ _ _ _ v.plays (done c).loop-i-test.false (s k).requires.0 v.moved (done c).count_block.ensures,
@@ -151,7 +151,7 @@ play_spec = tie.close (tie.spec
     record {
       fits = omega (
         arith,
-        sum-at _ _ _ _ c.kind_at-kind.ensures.0 c.memory_at-held.ensures.0 _ _ _ _ _ _ _ _ _ _ c.loop-i.invariant.plays c.loop-i-test.true c.turn-t.ensures.does.holds,
+        sum_at _ _ _ _ c.kind_at-kind.ensures.0 c.memory_at-held.ensures.0 _ _ _ _ _ _ _ _ _ _ c.loop-i.invariant.plays c.loop-i-test.true c.turn-t.ensures.does.holds,
       );
     })
     (λ c κs. search rules)

@@ -21,7 +21,7 @@ finish_spec = tie.close (tie.spec
       rw c.told.ensures,
     ))
     (λ c. search rules) (λ c. search rules) (λ c. search rules)
-    (λ c. 
+    (λ c.
     let e = ap (λ (r : FinishResult). (finish_told r.answer).outcome) c.play.ensures.0 in (
       outcome_is _ _ _ (c.play.ensures.0 ∙ accepted_call (chain_of_words c.args.words.now) c.args.a.now c.args.b.now _ _ c.shorter_of-shorter.ensures c.asked-verdict.ensures c.in-Accepted.is) c.told-in-Accepted.ensures,
       c.play.ensures.1 ∙ finished_outcome (chain_of_words c.args.words.now) _ c.args.words.now

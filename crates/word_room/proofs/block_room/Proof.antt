@@ -7,7 +7,7 @@ use Rattle.room.specs.laws.Asked.{block_room_refused}
 use Rattle.chain_words.specs.laws.Chains.{stands_long}
 use Rattle.word_block.specs.Words.{legal_head}
 use Rattle.word_block.specs.laws.Heads.{head_stands, head_illegal}
-use Rattle.word_room.proofs.Known.{own-parts, block_at}
+use Rattle.word_room.proofs.Known.{own_parts, block_at}
 use Rattle.word_room.proofs.block_room.Statement.{statement}
 use Rattle.word_room.proofs.block_room.Tie as tie
 
@@ -20,8 +20,8 @@ block_room_spec = tie.close (tie.spec
     (λ c κs. search rules)
     (λ c. block_room_refused _ (head_illegal _ (sym c.legal_head.ensures ∙ c.if-not-legal_head.true)) _)
     (λ c κs. stands_long _ (head_stands _ (headed c)))
-    (λ c κs. (own-parts _ (headed c.before) _ c.format_of-own.ensures).channels.1)
+    (λ c κs. (own_parts _ (headed c.before) _ c.format_of-own.ensures).channels.1)
     (λ c κs. headed c.before.before)
-    (λ c κs. let f = c.before.before in (own-parts _ (headed f.before) _ c.format_of-own.ensures).channels.0)
+    (λ c κs. let f = c.before.before in (own_parts _ (headed f.before) _ c.format_of-own.ensures).channels.0)
     (λ c. let w = c.before in let s = w.before in let f = s.before in
     block_at _ (headed f.before) _ c.format_of-own.ensures _ _ _ _ c.asked_bytes-size.ensures c.walked.ensures c.of_block.ensures))

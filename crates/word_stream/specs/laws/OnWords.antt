@@ -57,19 +57,19 @@ told_clipped_at_end (finished.Refused e) = refl
 pub words_as_run : {o : Pipeline} {S : Stream} {r r' : WordRun} {calls : List Call} → OnWords o S r calls r' → after_calls o S (run_on_words r) calls ≡ run_on_words r'
 words_as_run none = refl
 words_as_run {o} {S} {r} (played {calls = calls} format timestamp bytes a b result w a₁ b₁ e more) =
-    ap (λ (x : Run). after_calls o (after_feeding o (fed S) (block format timestamp bytes a b)) x calls) (sym (same-run (within S (run_on_words r)) (block_call (chain_of_words r.words) format timestamp bytes a b) result (chain_of_words w) a₁ b₁ e)) ∙ words_as_run more
+    ap (λ (x : Run). after_calls o (after_feeding o (fed S) (block format timestamp bytes a b)) x calls) (sym (same_run (within S (run_on_words r)) (block_call (chain_of_words r.words) format timestamp bytes a b) result (chain_of_words w) a₁ b₁ e)) ∙ words_as_run more
   where
-    same-run : (run : Run) (x : Result) (result : Told) (c : Pipeline) (a b : List ℕ) → record { result = result; chain = c; a = a; b = b } ≡ block_outcome x
+    same_run : (run : Run) (x : Result) (result : Told) (c : Pipeline) (a b : List ℕ) → record { result = result; chain = c; a = a; b = b } ≡ block_outcome x
         → record { chain = c; joined = run.joined ++ taken result.outcome result.half result.len a b; clipped = run.clipped + result.clipped } ≡ joined_by run x
-    same-run run x result c a b e =
+    same_run run x result c a b e =
         ap (λ (y : BlockOutcome). let z : Run = record { chain = y.chain; joined = run.joined ++ taken y.result.outcome y.result.half y.result.len y.a y.b; clipped = run.clipped + y.result.clipped } in z) e
         ∙ ap₂ (λ (l : List ℕ) (n : ℕ). let z : Run = record { chain = x.chain; joined = run.joined ++ l; clipped = run.clipped + n } in z) (taken_is x) (told_clipped x.answer)
 words_as_run {o} {S} {r} (ended {calls = calls} a b result w a₁ b₁ e more) =
-    ap (λ (x : Run). after_calls o (after_feeding o (fed S) (finish a b)) x calls) (sym (same-run (within S (run_on_words r)) (finish_call (chain_of_words r.words) a b) result (chain_of_words w) a₁ b₁ e)) ∙ words_as_run more
+    ap (λ (x : Run). after_calls o (after_feeding o (fed S) (finish a b)) x calls) (sym (same_run (within S (run_on_words r)) (finish_call (chain_of_words r.words) a b) result (chain_of_words w) a₁ b₁ e)) ∙ words_as_run more
   where
-    same-run : (run : Run) (x : FinishResult) (result : FinishTold) (c : Pipeline) (a b : List ℕ) → record { result = result; chain = c; a = a; b = b } ≡ finish_outcome x
+    same_run : (run : Run) (x : FinishResult) (result : FinishTold) (c : Pipeline) (a b : List ℕ) → record { result = result; chain = c; a = a; b = b } ≡ finish_outcome x
         → record { chain = c; joined = run.joined ++ taken result.outcome result.half result.len a b; clipped = run.clipped + result.clipped } ≡ finished_by run x
-    same-run run x result c a b e =
+    same_run run x result c a b e =
         ap (λ (y : FinishOutcome). let z : Run = record { chain = y.chain; joined = run.joined ++ taken y.result.outcome y.result.half y.result.len y.a y.b; clipped = run.clipped + y.result.clipped } in z) e
         ∙ ap₂ (λ (l : List ℕ) (n : ℕ). let z : Run = record { chain = x.chain; joined = run.joined ++ l; clipped = run.clipped + n } in z) (taken_at_end x) (told_clipped_at_end x.answer)
 words_as_run {o} {S} (cleared {calls = calls} done e h more) =

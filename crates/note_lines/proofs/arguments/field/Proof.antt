@@ -7,7 +7,7 @@ use native.Mathlib.Omega.{arith}
 use lib.ListN.{length, drop, get_or, drop_of_length-le}
 use Rattle.pcm.specs.laws.Writing.{next_byte}
 use Rattle.note_lines.specs.Arguments.{field_of, field_after}
-use Rattle.note_lines.specs.laws.Arguments.{field_end, field-low, field-high, field_next, field-over}
+use Rattle.note_lines.specs.laws.Arguments.{field_end, field_low, field_high, field_next, field_over}
 use Rattle.note_lines.proofs.arguments.field.Statement.{statement}
 use Rattle.note_lines.proofs.arguments.field.Tie as tie
 
@@ -31,14 +31,14 @@ returns c =
     let i = c.before.before in
     let l = i.before in
     let a = c.args in
-    field-low a.most c.loop-i.value _ (drop (c.loop-i.i + 1) a.text.now) c.if-b-lt48.true ∙ sym (left_is i)
+    field_low a.most c.loop-i.value _ (drop (c.loop-i.i + 1) a.text.now) c.if-b-lt48.true ∙ sym (left_is i)
 
 returns-2 : tie.Need-returns-then-b-gt57 invariant-loop decreases-loop
 returns-2 c =
     let i = c.before.before.before in
     let l = i.before in
     let a = c.args in
-    field-high a.most c.loop-i.value _ (drop (c.loop-i.i + 1) a.text.now) c.if-b-lt48.false c.if-b-gt57.true ∙ sym (left_is i)
+    field_high a.most c.loop-i.value _ (drop (c.loop-i.i + 1) a.text.now) c.if-b-lt48.false c.if-b-gt57.true ∙ sym (left_is i)
 
 returns-3 : tie.Need-returns-then-next-most invariant-loop decreases-loop
 returns-3 c =
@@ -46,7 +46,7 @@ returns-3 c =
     let i = e.before.before.before in
     let l = i.before in
     let a = c.args in
-    field-over a.most c.loop-i.value _ (drop (c.loop-i.i + 1) a.text.now) c.if-b-lt48.false c.if-b-gt57.false c.if-next-most.true ∙ sym (left_is i)
+    field_over a.most c.loop-i.value _ (drop (c.loop-i.i + 1) a.text.now) c.if-b-lt48.false c.if-b-gt57.false c.if-next-most.true ∙ sym (left_is i)
 
 loop-again : tie.Need-loop-i-preserved invariant-loop decreases-loop
 loop-again c =

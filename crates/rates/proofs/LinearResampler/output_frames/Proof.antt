@@ -11,10 +11,10 @@ use Rattle.rates.proofs.LinearResampler.output_frames.Statement.{statement}
 use Rattle.rates.proofs.LinearResampler.output_frames.Tie as tie
 
 -- the count of unequal rates is that from the first position
-count-from-position : (c : tie.After-first_position-num) → let a = c.before.before.before.before.args in
+count_from_position : (c : tie.After-first_position-num) → let a = c.before.before.before.before.args in
     count a.self.in_r c.first_position-num.result (a.frames * a.self.out_r) ≡ resampled_count a.self a.primed a.phase a.frames
 unfolding resampled_count
-count-from-position c =
+count_from_position c =
     let e = c.before.before in
     let a = e.before.before.args in
     simp (ne_eqb _ _ e.if-self.false)
@@ -28,8 +28,8 @@ returns c = simp (eq-eqb _ _ c.if-self.true)
 returns-2 : tie.Need-returns-then-end-num
 returns-2 c =
     let a = c.before.before.before.before.before.args in
-    sym (count_none_past a.self.in_r c.before.first_position-num.result (a.frames * a.self.out_r) c.if-end-num.true) ∙ count-from-position c.before
+    sym (count_none_past a.self.in_r c.before.first_position-num.result (a.frames * a.self.out_r) c.if-end-num.true) ∙ count_from_position c.before
 
 pub output_frames_spec : {M : Type 1} → statement M
 output_frames_spec = tie.close (tie.spec returns (λ c. search rules) (λ c κs. search rules) returns-2 (λ c. search rules) (λ c. search rules) (λ c. search rules) (λ c. search rules)
-    (λ c. count-from-position c.before.before.before))
+    (λ c. count_from_position c.before.before.before))
