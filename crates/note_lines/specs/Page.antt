@@ -1,5 +1,5 @@
 -- The desk program's page: the lines, or the refusal's number alone (document 02, Q-4). Definitions only.
-use Rattle.std.specs.Prelude.{cond, List, [], ◌∷◌, ◌++◌, ℕ, ◌/◌, ◌%◌, leb, ltb, length}
+use Rattle.std.specs.Prelude.{cond, List, [], ◌∷◌, ℕ, ◌/◌, ◌%◌, leb, ltb, length}
 use Rattle.pcm.specs.declared.PcmFormat.{PcmFormat}
 use Rattle.pcm.specs.declared.Error.TheVariants.{TooLong}
 use Rattle.pcm.specs.declared.Verdict.{Verdict}

@@ -14,7 +14,6 @@ use Rattle.biquad.specs.Recurrence.{floats}
 use Rattle.rates.specs.Rates.{rates_allowed, reduced}
 use Rattle.stage.specs.declared.StageKind.{StageKind}
 use Rattle.stage.specs.declared.StageKind.TheVariants as kind
-use Rattle.stage.specs.declared.Stage.{Stage}
 use Rattle.recipe.specs.declared.Record.{Record}
 use Rattle.recipe.specs.declared.Record.TheVariants as rec
 use Rattle.opening.specs.declared.StageAnswer.{StageAnswer}

@@ -8,7 +8,7 @@ use Rattle.stage.specs.Stages.{stage_out, stage_next, format_after}
 use Rattle.block.specs.Chain.{chain_out, chain_next}
 use Rattle.pipeline.specs.Reset.{format_leaving}
 use Rattle.turns.specs.Turns.{Halves, source_at}
-use Rattle.block.specs.BlockCall.{put, suited, rooms_verdict, shorter, passed}
+use Rattle.block.specs.BlockCall.{put, suited, rooms_verdict, passed}
 
 pub record Turns (f : PcmFormat) (s next : Stage) (xs : List Frame) (i len : ℕ) (before after : Halves) : Type 0 where
   pub keeps : next ≡ stage_next s xs

@@ -1,5 +1,5 @@
 -- `gain::sat16_wide` meets its contract: each return by the tests that led to it. Assumes nothing.
-use mathlib.Core.Path.{◌≡◌, ap, ◌∙◌, sym, subst}
+use mathlib.Core.Path.{sym, subst}
 use lib.IntN.{pos, negsuc}
 use mir.Syntax.{w16, w64}
 use mir.Val.{SFits}

@@ -1,8 +1,7 @@
 -- `gain::scale_full` meets its contract. Assumes nothing.
 use borrow.Author.Rules.{rules}
-use mathlib.Core.Path.{◌≡◌}
 use lib.Dec.{lit<}
-use mir.Syntax.{w16, w32, w64}
+use mir.Syntax.{w16, w64}
 use mir.Val.{SFits}
 use mir.Facts.{to_z-of_z, sfits_widen}
 use Rattle.pcm.specs.laws.Integers.{answered, within_fits}

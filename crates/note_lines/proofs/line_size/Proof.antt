@@ -1,7 +1,6 @@
 -- `note_lines::line_size` meets its contract. Assumes nothing.
 use borrow.Author.Rules.{rules}
 use mathlib.Core.Path.{sym, ◌∙◌}
-use borrow.Author.Tests.{not-true, not-false}
 use Rattle.note_lines.proofs.line_size.Statement.{statement}
 use Rattle.note_lines.proofs.line_size.Tie as tie
 

@@ -1,12 +1,12 @@
 -- `note_lines::lines_size` meets its contract. Assumes nothing.
 use borrow.Author.Rules.{rules}
 use mathlib.Core.Path.{◌≡◌, refl, sym, ap, ap₂, ◌∙◌}
-use mathlib.Core.Bool.{Bool, cond}
+use mathlib.Core.Bool.{cond}
 use mathlib.Core.List.{List, [], ◌++◌}
 use Prim.Native.Nat.{ℕ, ◌+◌, ◌-◌, ◌*◌, ◌≤◌}
 use native.Mathlib.Omega.{arith}
 use lib.ListN.{length, drop, length-append}
-use Rattle.recipe.specs.Records.{of_note, length_at, kind_at}
+use Rattle.recipe.specs.Records.{of_note, length_at}
 use Rattle.note_lines.specs.laws.Lines.{line_here, line_size, lines_fit}
 use Rattle.note_lines.proofs.Walk.{Walked, walked_start, walked_end, walked_next, next_whole, next_within, next_four, kind_there, line_room}
 use Rattle.note_lines.proofs.lines_size.Statement.{statement}

@@ -7,8 +7,7 @@ use native.Mathlib.Omega.{arith}
 use lib.ListN.{length, take, drop, length-append}
 use lib.Seq.{sets, length-sets}
 use Rattle.words.specs.laws.Runs.{sets_append, front_run}
-use Rattle.recipe.specs.Records.{length_at, kind_at}
-use Rattle.recipe.specs.Notes.{note_at}
+use Rattle.recipe.specs.Records.{length_at}
 use Rattle.note_lines.specs.Lines.{lines_of}
 use Rattle.note_lines.specs.laws.Lines.{line_if, line_here}
 use Rattle.note_lines.proofs.Walk.{Walked, walked_start, walked_end, walked_next, next_whole, next_within, next_four, kind_there, text_there, line_room}

@@ -1,7 +1,6 @@
 -- `note_lines::write_page` meets its contract. Assumes nothing.
 use borrow.Author.Rules.{rules}
-use mathlib.Core.Path.{◌≡◌, ap, ◌∙◌}
-use mathlib.Core.List.{List}
+use mathlib.Core.Path.{ap, ◌∙◌}
 use Prim.Native.Nat.{ℕ}
 use Rattle.pcm.specs.Frames.{written}
 use Rattle.note_lines.specs.Page.{number_line}

@@ -1,5 +1,5 @@
 -- Laws of the definitions in Lines: the lines, record by record. Assumes nothing.
-use Rattle.std.specs.Prelude.{◌≡◌, refl, Bool, true, false, cond, List, [], ◌∷◌, ◌++◌, map, ℕ, ◌+◌, ◌-◌, ◌*◌, ◌≤◌, ◌<◌, length, take, drop}
+use Rattle.std.specs.Prelude.{◌≡◌, refl, Bool, true, false, cond, List, [], ◌∷◌, ◌++◌, map, ℕ, ◌+◌, ◌-◌, ◌*◌, ◌≤◌, ◌<◌, length, drop}
 use Rattle.std.proofs.Common.{ap, ap₂, ◌∙◌, append-nil, arith, length-append, length-drop, length-take-le}
 use Rattle.pcm.specs.Frames.{flat}
 use Rattle.pcm.specs.laws.Frames.{flat_append, map_append}

@@ -1,11 +1,11 @@
 -- Laws of the definitions in Page. Assumes nothing.
-use Rattle.std.specs.Prelude.{◌≡◌, refl, Bool, true, false, cond, List, [], ◌∷◌, ℕ, ◌*◌, ◌/◌, ◌%◌, ◌≤◌, ◌<◌, leb, ltb, length}
-use Rattle.std.proofs.Common.{ap, ◌∙◌, arith, leb-true}
+use Rattle.std.specs.Prelude.{◌≡◌, Bool, true, false, cond, List, [], ◌∷◌, ℕ, ◌*◌, ◌/◌, ◌%◌, ◌≤◌, leb, ltb, length}
+use Rattle.std.proofs.Common.{ap, arith, leb-true}
 use Rattle.pcm.specs.declared.PcmFormat.{PcmFormat}
 use Rattle.pcm.specs.declared.Error.TheVariants.{TooLong}
 use Rattle.pcm.specs.declared.Verdict.{Verdict}
 use Rattle.pcm.specs.declared.Verdict.TheVariants.{Accepted, Refused}
-use Rattle.pcm.specs.Refusals.{ask, refusal}
+use Rattle.pcm.specs.Refusals.{refusal}
 use Rattle.pcm.specs.laws.Refusals.{ask_yes}
 use Rattle.recipe.specs.Records.{records, WholeRecords}
 use Rattle.pipeline.specs.declared.Opened.{Opened}

@@ -1,7 +1,7 @@
 -- `rates::gcd` meets its contract; it divides by no 1, and takes no more remainders than `remainders_to 1`. Assumes nothing.
 use borrow.Author.Rules.{rules}
 use mathlib.Core.Path.{◌≡◌, refl, sym}
-use Prim.Native.Nat.{ℕ, ◌%◌, ◌<◌}
+use Prim.Native.Nat.{ℕ, ◌<◌}
 use native.Mathlib.Omega.{arith}
 use Rattle.rates.specs.Divisor.{GreatestCommonDivisor, gcd, remainders_to}
 use Rattle.rates.specs.laws.Divisor.{gcd_step, gcd-zero, gcd_one, gcd_is_unique}

@@ -1,6 +1,5 @@
 -- `room::finish_room` meets its contract. Assumes nothing.
 use borrow.Author.Rules.{rules}
-use borrow.Author.Tests.{not-true, not-false}
 use mathlib.Core.Path.{◌≡◌, sym, ap, ◌∙◌}
 use mathlib.Core.Bool.{true}
 use Rattle.pcm.specs.declared.Error.TheVariants.{InvalidFormat}

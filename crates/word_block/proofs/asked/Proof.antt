@@ -1,6 +1,5 @@
 -- `word_block::asked` meets its contract. Assumes nothing.
 use borrow.Author.Rules.{rules}
-use borrow.Author.Tests.{not-true, not-false}
 use mathlib.Core.Path.{◌≡◌, sym, ◌∙◌}
 use mathlib.Core.Bool.{true}
 use Rattle.questions.specs.Walk.{head_legal}

@@ -1,5 +1,5 @@
 -- Laws of the definitions in OnWords. Assumes nothing.
-use Rattle.std.specs.Prelude.{◌≡◌, refl, List, [], ◌++◌, ℕ, ◌+◌}
+use Rattle.std.specs.Prelude.{◌≡◌, refl, List, ◌++◌, ℕ, ◌+◌}
 use Rattle.std.proofs.Common.{sym, ap, ap₂, ◌∙◌}
 use Rattle.pipeline.specs.declared.Pipeline.{Pipeline}
 use Rattle.answers.specs.declared.Half.{Half}

@@ -1,11 +1,9 @@
 -- `gain::Gain::apply` meets its contract. Assumes nothing.
 use borrow.Author.Rules.{rules}
-use mathlib.Core.Path.{◌≡◌, ap, ◌∙◌}
-use lib.IntN.{ℤ}
+use mathlib.Core.Path.{◌≡◌, ◌∙◌}
 use mir.Syntax.{w16, w32}
 use mir.Val.{to_z, of_z}
 use Rattle.pcm.specs.laws.Integers.{answered, read_back}
-use Rattle.gain.specs.Gain.{scaled}
 use Rattle.gain.proofs.Gain.apply.Statement.{statement}
 use Rattle.gain.proofs.Gain.apply.Tie as tie
 
