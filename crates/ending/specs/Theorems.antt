@@ -18,7 +18,7 @@ use Rattle.rates.specs.Rates.{Rates}
 use Rattle.resample.specs.Resample.{newest, whole_outputs}
 use Rattle.resample.specs.laws.Delivered.{whole_length}
 use Rattle.resample.specs.Neighbours.{sample_in}
-use Rattle.resample.specs.Theorems.{whole_sample}
+use Rattle.resample.proofs.Theorems.{whole_sample}
 use Rattle.ending.specs.ResamplerEnd.{on_last, EndedSample}
 use Rattle.ending.specs.laws.ResamplerEnd.{divides_is, newest_at, ended-length}
 use Rattle.ending.specs.laws.EndedSamples.{sample_at_lem, frame_at, of_delivered, of_last}

@@ -23,8 +23,8 @@ use Rattle.stage.specs.Stages.{stage_as_opened, format_after}
 use Rattle.pipeline.specs.declared.Opened.{Opened}
 use Rattle.opening.specs.Opening.{settings_allowed, stage_verdict, stage_kind_of}
 use Rattle.pipeline.specs.Opening.{Stages, opened, refused, asked, front, next_kind, open_records, open_stages, unused_stage, chain_of, opened_of, open_call}
-use Rattle.pipeline.specs.laws.Opening.{stage_fits}
-use Rattle.pipeline.specs.laws.RoundTrip.{opened_few}
+use Rattle.pipeline.proofs.laws.Opening.{stage_fits}
+use Rattle.pipeline.proofs.laws.RoundTrip.{opened_few}
 use Rattle.stage_words.specs.Storable.{HeldStage, SmallKind, Small}
 use Rattle.chain_words.specs.Layout.{words_of, chain_of_words}
 use Rattle.chain_words.specs.Storable.{Storable}

@@ -2,3 +2,5 @@ mod OpeningLaws
 mod Opens
 mod ResetLaws
 mod Writing
+pub mod laws
+pub mod Theorems

@@ -18,7 +18,7 @@ use Rattle.recipe.specs.declared.Entry.TheVariants as entry
 use Rattle.recipe.specs.declared.RecordAnswer.TheVariants as read
 use Rattle.recipe.specs.Records.{of_note, length_at, kind_at, record_at, record_verdict, entry_at, read_record, answered}
 use Rattle.opening.specs.Opening.{settings_allowed, stage_kind_of}
-use Rattle.pipeline.specs.laws.Opening.{zero_not_one}
+use Rattle.pipeline.proofs.laws.Opening.{zero_not_one}
 
 -- ---- what an answer tells of the questions
 -- a stage's record

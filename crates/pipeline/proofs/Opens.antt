@@ -25,7 +25,7 @@ use Rattle.opening.specs.declared.StageAnswer.TheVariants as answer
 use Rattle.pipeline.specs.Opening.{Stages, opened, refused, front, open_stages, chain_of, open_call, unused_stage}
 use Rattle.opening.specs.Opening.{stage_answer, stage_verdict, stage_kind_of}
 use Rattle.pipeline.proofs.OpeningLaws.{StageRead, read_stage, NoteRead, read_note, read_refused, rate_after}
-use Rattle.pipeline.specs.laws.Opening.{stage_accepted, stage_refused, stage_fits, open_none, open_short, open_note, open_unfit, open_next}
+use Rattle.pipeline.proofs.laws.Opening.{stage_accepted, stage_refused, stage_fits, open_none, open_short, open_note, open_unfit, open_next}
 
 -- stages before what is left to open
 abbrev pub joined : List Stage → Stages → Stages

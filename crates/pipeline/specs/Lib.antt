@@ -1,6 +1,5 @@
 pub mod Opening
 pub mod Reset
 pub mod RoundTrip
-pub mod Theorems
 pub mod WritingBack
 pub mod laws

@@ -1,4 +1,2 @@
-pub mod Opening
 pub mod Reset
-pub mod RoundTrip
 pub mod WritingBack

@@ -3,6 +3,5 @@ pub mod Neighbours
 pub mod Place
 pub mod Resample
 pub mod Stage
-pub mod Theorems
 pub mod Value
 pub mod laws

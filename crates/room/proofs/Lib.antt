@@ -1,1 +1,3 @@
 mod Telling
+pub mod laws
+pub mod Theorems

@@ -1,5 +1,4 @@
 pub mod Asked
 pub mod Beforehand
 pub mod Room
-pub mod Theorems
 pub mod laws

@@ -1,6 +1,5 @@
 pub mod Calls
 pub mod Counters
-pub mod Examples
 pub mod FromChain
 pub mod OneCall
 pub mod Opened
@@ -10,6 +9,4 @@ pub mod PlainEnd
 pub mod PlainRoom
 pub mod Resamplers
 pub mod Stream
-pub mod Theorems
 pub mod WholeStream
-pub mod laws

@@ -1,3 +1,1 @@
 pub mod OnWords
-pub mod Theorems
-pub mod laws

@@ -8,7 +8,7 @@ use Rattle.std.proofs.Math.Facts.{sfits_lit}
 use Rattle.pcm.specs.Samples.{Samples}
 use Rattle.pcm.specs.Frames.{Frame, FrameOf, FramesOf}
 use Rattle.resample.specs.Value.{value, frac, interpolated}
-use Rattle.resample.specs.laws.Value.{interpolated_between, samples_apart, frac_below, value_near_line}
+use Rattle.resample.proofs.laws.Value.{interpolated_between, samples_apart, frac_below, value_near_line}
 use Rattle.resample.specs.Neighbours.{sample_in, DeliveredSample}
 use Rattle.ending.specs.ResamplerEnd.{newer_of, EndedSample}
 

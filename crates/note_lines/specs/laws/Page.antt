@@ -10,7 +10,7 @@ use Rattle.pcm.specs.laws.Refusals.{ask_yes}
 use Rattle.recipe.specs.Records.{records, WholeRecords}
 use Rattle.pipeline.specs.declared.Opened.{Opened}
 use Rattle.pipeline.specs.Opening.{open_call}
-use Rattle.pipeline.specs.Theorems.{opened_whole}
+use Rattle.pipeline.proofs.Theorems.{opened_whole}
 use Rattle.note_lines.specs.Lines.{digit}
 use Rattle.note_lines.specs.Page.{desk_verdict, number_line, printed}
 use Rattle.note_lines.specs.laws.Lines.{lines_fit}

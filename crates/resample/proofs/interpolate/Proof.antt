@@ -11,7 +11,7 @@ use mir.Facts.{sfits_widen}
 use Rattle.pcm.specs.Integers.{floor_div}
 use Rattle.pcm.specs.laws.Integers.{abs_self, add_within, sub_within, mul_within, floor_within, within_fits, fits_within, read_back, settled}
 use Rattle.resample.specs.Value.{interpolated}
-use Rattle.resample.specs.laws.Value.{interpolated_fits}
+use Rattle.resample.proofs.laws.Value.{interpolated_fits}
 use Rattle.resample.proofs.interpolate.Statement.{statement}
 use Rattle.resample.proofs.interpolate.Tie as tie
 

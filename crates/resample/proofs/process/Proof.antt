@@ -18,7 +18,7 @@ use Rattle.resample.specs.Stage.{Ready, Processed}
 use Rattle.resample.specs.declared.Resampled.{Resampled}
 use Rattle.rates.specs.declared.LinearResampler.{LinearResampler}
 use Rattle.rates.specs.declared.ResamplerState.{ResamplerState}
-use Rattle.resample.specs.Theorems.{resampled_equal, state_equal}
+use Rattle.resample.proofs.Theorems.{resampled_equal, state_equal}
 use Rattle.resample.proofs.Stage.{resampled_unequal, state_unequal}
 use Rattle.resample.proofs.process.Statement.{statement}
 use Rattle.resample.proofs.process.Tie as tie

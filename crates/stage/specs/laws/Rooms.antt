@@ -20,7 +20,7 @@ use Rattle.rates.specs.Rates.{rates_allowed, Rates}
 use Rattle.rates.specs.laws.Rates.{rates_within}
 use Rattle.rates.specs.Theorems.{room_holds}
 use Rattle.resample.specs.laws.Delivered.{resampled_count_lem}
-use Rattle.resample.specs.laws.Neighbours.{resampled_frames}
+use Rattle.resample.proofs.laws.Neighbours.{resampled_frames}
 use Rattle.stage.specs.declared.StageKind.{StageKind}
 use Rattle.stage.specs.declared.StageKind.TheVariants as kind
 use Rattle.stage.specs.declared.SoundMemory.{SoundMemory}

@@ -28,7 +28,7 @@ use Rattle.rates.specs.declared.ResamplerState.{ResamplerState}
 use Rattle.resample.specs.declared.Resampled.{Resampled}
 use Rattle.resample.specs.Resample.{resampled, state_after}
 use Rattle.resample.specs.laws.Delivered.{resampled_count_lem}
-use Rattle.resample.specs.laws.Neighbours.{resampled_frames}
+use Rattle.resample.proofs.laws.Neighbours.{resampled_frames}
 use Rattle.resample.specs.Stage.{Ready, Processed}
 use Rattle.stage.specs.declared.StageKind.{StageKind}
 use Rattle.stage.specs.declared.StageKind.TheVariants as kind

@@ -12,9 +12,9 @@ use Rattle.stream.specs.Opened.{kinds_in, FreshlyOpened}
 use Rattle.stream.specs.PlainChain.{received_by}
 use Rattle.stream.specs.PlainEnd.{received_at_end}
 use Rattle.stream.specs.Stream.{Stream, running, ended, stream_of, run_of}
-use Rattle.stream.specs.laws.Resamplers.{received_frames, resampler_in_chain, received_at_end_frames, resampler_at_end}
+use Rattle.stream.proofs.laws.Resamplers.{received_frames, resampler_in_chain, received_at_end_frames, resampler_at_end}
 use Rattle.stream.specs.FromChain.{Since, EndedSince}
-use Rattle.stream.specs.laws.AfterCalls.{Stands, as_opened, suit, state_plain, output_plain, clipped_plain, end_state_plain, end_output_plain, end_clipped_plain, verdict_plain, finish_plain, stands_within, after_all}
+use Rattle.stream.proofs.laws.AfterCalls.{Stands, as_opened, suit, state_plain, output_plain, clipped_plain, end_state_plain, end_output_plain, end_clipped_plain, verdict_plain, finish_plain, stands_within, after_all}
 use Rattle.stream.specs.WholeStream.{RunningStream, EndedStream, WholeStream}
 
 module _ (o : Pipeline) (opened : FreshlyOpened o) where

@@ -14,7 +14,7 @@ use Rattle.stage.specs.Stages.{stage_clear}
 use Rattle.pipeline.specs.declared.Pipeline.{Pipeline}
 use Rattle.pipeline.specs.Reset.{reset_call}
 use Rattle.pipeline.specs.WritingBack.{stages_of}
-use Rattle.pipeline.specs.Theorems.{reset_stages}
+use Rattle.pipeline.proofs.Theorems.{reset_stages}
 use Rattle.block.specs.Chain.{chain_out, chain_next, chain_clipped}
 use Rattle.block.specs.laws.Chain.{chain_out-nil, chain_next-nil, chain_clipped-nil, chain_out-append, chain_next-append, chain_clipped-append, chain_clear_next}
 use Rattle.block.specs.BlockCall.{block_verdict, shorter, accepted, block_call}
@@ -25,7 +25,7 @@ use Rattle.finish.specs.laws.ChainEnd.{chain_ends, end_clips}
 use Rattle.stream.specs.Calls.{block, reset, finish, Run, fresh, joined_by, finished_by, after_call}
 use Rattle.stream.specs.Stream.{added_by}
 use Rattle.stream.specs.OneCall.{Moved}
-use Rattle.stream.specs.laws.OneCall.{accepted_moves, accepted_output, accepted_clipped, reset_moves, finished_output, finished_clipped, finished_moves}
+use Rattle.stream.proofs.laws.OneCall.{accepted_moves, accepted_output, accepted_clipped, reset_moves, finished_output, finished_clipped, finished_moves}
 use Rattle.stream.specs.FromChain.{Since, EndedSince}
 
 -- ---- chains that move on

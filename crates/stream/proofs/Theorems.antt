@@ -8,15 +8,15 @@ use Rattle.pcm.specs.Formats.{format_allowed}
 use Rattle.pcm.specs.Refusals.{ask, number_of, room_verdict}
 use Rattle.pipeline.specs.Opening.{asked, open_stages, opened_of, open_call}
 use Rattle.stream.specs.Opened.{FreshlyOpened, kinds_in}
-use Rattle.pipeline.specs.laws.Opening.{zero_not_one}
-use Rattle.stream.specs.laws.Opening.{stages_opened, stages_chain}
+use Rattle.pipeline.proofs.laws.Opening.{zero_not_one}
+use Rattle.stream.proofs.laws.Opening.{stages_opened, stages_chain}
 use Rattle.pcm.specs.Samples.{All, Bytes}
 use Rattle.stream.specs.Calls.{Call, Lent, Run, fresh}
 use Rattle.stream.specs.Stream.{running, fed, within, stream_of, run_of}
 use Rattle.stream.specs.FromChain.{Since}
-use Rattle.stream.specs.laws.FromChain.{begun}
+use Rattle.stream.proofs.laws.FromChain.{begun}
 use Rattle.stream.specs.WholeStream.{WholeStream}
-use Rattle.stream.specs.laws.WholeStream.{whole_stream_of}
+use Rattle.stream.proofs.laws.WholeStream.{whole_stream_of}
 use Rattle.pcm.specs.Frames.{Frame}
 use Rattle.stage.specs.Stages.{kinds_of, stage_clear}
 use Rattle.pipeline.specs.declared.Pipeline.{Pipeline}
@@ -25,8 +25,8 @@ use Rattle.recipe.specs.Notes.{notes_in, without_notes}
 use Rattle.recipe.specs.Theorems.{no_notes}
 use Rattle.writing.specs.WritingBack.{recipe_of}
 use Rattle.pipeline.specs.WritingBack.{write_verdict, write_outcome, write_call, stages_of}
-use Rattle.pipeline.specs.laws.RoundTrip.{recipe_of_kinds}
-use Rattle.pipeline.specs.Theorems.{recipe_kept}
+use Rattle.pipeline.proofs.laws.RoundTrip.{recipe_of_kinds}
+use Rattle.pipeline.proofs.Theorems.{recipe_kept}
 use Rattle.answers.specs.declared.Scratch.TheVariants as scratch
 use Rattle.block.specs.BlockCall.{legal, block_verdict, scratch_bytes}
 use Rattle.block.specs.laws.Bounds.{legal_parts}
@@ -37,15 +37,15 @@ use Rattle.answers.specs.declared.FinishAnswer.TheVariants as finish
 use Rattle.finish.specs.FinishCall.{finish_call}
 use Rattle.finish.specs.Theorems.{nothing_due}
 use Rattle.room.specs.Beforehand.{BlockBeforehand, FinishBeforehand}
-use Rattle.room.specs.Theorems.{block_beforehand, finish_beforehand}
-use Rattle.stream.specs.laws.Sounding.{sounding}
-use Rattle.stream.specs.laws.AfterCalls.{state_plain, legal_since, stands_within, after_all}
-use Rattle.stream.specs.laws.Afterwards.{kinds_of_state}
+use Rattle.room.proofs.Theorems.{block_beforehand, finish_beforehand}
+use Rattle.stream.proofs.laws.Sounding.{sounding}
+use Rattle.stream.proofs.laws.AfterCalls.{state_plain, legal_since, stands_within, after_all}
+use Rattle.stream.proofs.laws.Afterwards.{kinds_of_state}
 use Rattle.stream.specs.Counters.{held_count, accepted_blocks, nothing_from}
-use Rattle.stream.specs.laws.Counters.{nothing_calls, counted_calls, open_counters}
+use Rattle.stream.proofs.laws.Counters.{nothing_calls, counted_calls, open_counters}
 use Rattle.stage.specs.declared.StageKind.{StageKind}
 use Rattle.stream.specs.PlainChain.{plain_stage, received_by, delivered_by}
-use Rattle.stream.specs.laws.PlainChain.{through_stage}
+use Rattle.stream.proofs.laws.PlainChain.{through_stage}
 use Rattle.stream.specs.PlainEnd.{plain_ended, received_at_end, delivered_at_end}
 
 pub opened_chain : (f : PcmFormat) (recipe : List ℕ) → (open_call f recipe).verdict ≡ Accepted → FreshlyOpened (open_call f recipe).chain

@@ -10,8 +10,8 @@ use Rattle.block.specs.BlockCall.{legal, block_verdict}
 use Rattle.room.specs.declared.Room.TheVariants as room
 use Rattle.room.specs.Beforehand.{Smallest, BlockBeforehand, FinishBeforehand, Sounding, frame_bytes}
 use Rattle.room.specs.Room.{block_room}
-use Rattle.room.specs.laws.Enough.{no_larger}
-use Rattle.room.specs.laws.Known.{block_known, finish_known, refused_then, block_answered, finish_answered}
+use Rattle.room.proofs.laws.Enough.{no_larger}
+use Rattle.room.proofs.laws.Known.{block_known, finish_known, refused_then, block_answered, finish_answered}
 
 -- of a legal chain 1 to 8,192 frames are never refused, nor is a finish, and the calls do what was answered
 module _ (c : Pipeline) (sound : Sounding c) (lawful : legal c ≡ true) where

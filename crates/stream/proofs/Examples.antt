@@ -39,8 +39,8 @@ use Rattle.stream.specs.PlainRoom.{plain_room, plain_verdict}
 use Rattle.stream.specs.PlainEnd.{plain_last, plain_ended, plain_end, plain_end_room}
 use Rattle.stream.specs.Stream.{running, ended, stream_of, run_of}
 use Rattle.stream.specs.WholeStream.{WholeStream}
-use Rattle.stream.specs.Theorems.{whole_stream}
-use Rattle.stream.specs.laws.Calls.{all_lent_lem}
+use Rattle.stream.proofs.Theorems.{whole_stream}
+use Rattle.stream.proofs.laws.Calls.{all_lent_lem}
 
 abbrev mono8000 : PcmFormat
 mono8000 = record { rate = 8000; channels = 1 }

@@ -10,10 +10,10 @@ use Rattle.room.specs.Beforehand.{BlockBeforehand, FinishBeforehand}
 use Rattle.stream.specs.Calls.{Call, Lent, Run, fresh}
 use Rattle.stream.specs.Stream.{running, after_calls, stream_of, run_of}
 use Rattle.stream.specs.WholeStream.{WholeStream}
-use Rattle.stream.specs.Theorems.{whole_stream, block_still_beforehand, finish_still_beforehand}
+use Rattle.stream.proofs.Theorems.{whole_stream, block_still_beforehand, finish_still_beforehand}
 use Rattle.chain_words.specs.Layout.{chain_of_words}
 use Rattle.word_stream.specs.OnWords.{WordRun, run_on_words, OnWords}
-use Rattle.word_stream.specs.laws.OnWords.{words_as_run}
+use Rattle.word_stream.proofs.laws.OnWords.{words_as_run}
 
 -- whatever the format and the recipe that opening accepts, the calls, and the blocks and halves that they bring: `start` is what
 -- muzgleur_open promises of the words

@@ -11,9 +11,9 @@ use Rattle.block.specs.Chain.{chain_clipped}
 use Rattle.block.specs.laws.Bounds.{suited_first, suited_rest}
 use Rattle.finish.specs.FinishCall.{end_clipped}
 use Rattle.stream.specs.PlainChain.{plain_stage}
-use Rattle.stream.specs.laws.PlainChain.{stage_is_plain}
+use Rattle.stream.proofs.laws.PlainChain.{stage_is_plain}
 use Rattle.stream.specs.PlainEnd.{plain_ended}
-use Rattle.stream.specs.laws.PlainEnd.{end_is_plain, ended_frames}
+use Rattle.stream.proofs.laws.PlainEnd.{end_is_plain, ended_frames}
 use Rattle.stream.specs.PlainClipped.{plain_clipped, clipped_through, plain_clips, plain_end_clips}
 
 -- ---- the stages as opened hold just that back

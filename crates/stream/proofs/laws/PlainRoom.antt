@@ -25,7 +25,7 @@ use Rattle.pipeline.specs.WritingBack.{stages_of}
 use Rattle.block.specs.BlockCall.{suited, legal, rooms_verdict, halves_verdict, block_verdict}
 use Rattle.block.specs.laws.Bounds.{suited_first, suited_rest}
 use Rattle.stream.specs.PlainChain.{plain_stage, plain_memory, plain_state}
-use Rattle.stream.specs.laws.PlainChain.{stage_is_plain, memory_is_plain}
+use Rattle.stream.proofs.laws.PlainChain.{stage_is_plain, memory_is_plain}
 use Rattle.stream.specs.PlainRoom.{delivered_next, plain_room, plain_halves, plain_verdict}
 
 -- ---- the stages in their sound state suit as those opened did

@@ -16,8 +16,8 @@ use Rattle.rates.specs.laws.Counting.{ceil_least}
 use Rattle.resample.specs.Resample.{whole_outputs, resampled_whole, state_whole}
 use Rattle.rates.specs.Rates.{opened_state, Rates, reduced}
 use Rattle.resample.specs.laws.Delivered.{carried_is_whole}
-use Rattle.resample.specs.laws.Neighbours.{carried_frames}
-use Rattle.resample.specs.Theorems.{delivered_exactly, delivered_by_rates, sound_phase, whole_sample}
+use Rattle.resample.proofs.laws.Neighbours.{carried_frames}
+use Rattle.resample.proofs.Theorems.{delivered_exactly, delivered_by_rates, sound_phase, whole_sample}
 use Rattle.stage.specs.declared.StageKind.{StageKind}
 use Rattle.stage.specs.declared.StageKind.TheVariants as kind
 use Rattle.stage.specs.Stages.{stage_as_opened, memory_as_opened, format_after}
@@ -30,9 +30,9 @@ use Rattle.pipeline.specs.Reset.{format_leaving}
 use Rattle.block.specs.BlockCall.{suited}
 use Rattle.stream.specs.Opened.{RatesReduced}
 use Rattle.stream.specs.PlainChain.{plain_stage, through, received_by, delivered_by}
-use Rattle.stream.specs.laws.PlainChain.{plain_frames}
+use Rattle.stream.proofs.laws.PlainChain.{plain_frames}
 use Rattle.stream.specs.PlainEnd.{plain_last, plain_ended, received_at_end, delivered_at_end}
-use Rattle.stream.specs.laws.PlainEnd.{ended_frames}
+use Rattle.stream.proofs.laws.PlainEnd.{ended_frames}
 use Rattle.block.specs.laws.Bounds.{suited_first, suited_rest}
 use Rattle.stream.specs.Resamplers.{Resampled, ResampledToEnd}
 

@@ -34,7 +34,7 @@ use Rattle.room.specs.declared.Room.TheVariants as room
 use Rattle.room.specs.Beforehand.{Smallest, BlockKnown, FinishKnown, Sounding, frame_bytes, leaving_bytes}
 use Rattle.room.specs.Room.{found, block_found, finish_found, frames_verdict, block_asked, finish_asked, room_answer, block_room, finish_room}
 use Rattle.room.specs.laws.Asked.{size_frames}
-use Rattle.room.specs.laws.Enough.{known_parts, start_suited, block_smallest, finish_smallest}
+use Rattle.room.proofs.laws.Enough.{known_parts, start_suited, block_smallest, finish_smallest}
 
 -- ---- halves of at least so many bytes, or of just so many
 both_long : (m : ℕ) (a b : List ℕ) → m ≤ length a → m ≤ length b → m ≤ shorter a b

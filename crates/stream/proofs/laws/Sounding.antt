@@ -24,10 +24,10 @@ use Rattle.stream.specs.FromChain.{Since}
 use Rattle.stream.specs.Opened.{kinds_in, FreshlyOpened}
 use Rattle.stream.specs.PlainChain.{plain_out}
 use Rattle.stream.specs.PlainEnd.{plain_end}
-use Rattle.stream.specs.laws.AfterCalls.{as_opened, suit}
-use Rattle.stream.specs.laws.PlainChain.{chain_is_plain}
-use Rattle.stream.specs.laws.PlainEnd.{chain_end_is_plain}
-use Rattle.stream.specs.laws.Resamplers.{received_frames, received_at_end_frames}
+use Rattle.stream.proofs.laws.AfterCalls.{as_opened, suit}
+use Rattle.stream.proofs.laws.PlainChain.{chain_is_plain}
+use Rattle.stream.proofs.laws.PlainEnd.{chain_end_is_plain}
+use Rattle.stream.proofs.laws.Resamplers.{received_frames, received_at_end_frames}
 
 -- the format that leaves is that of the kinds, whatever the stages remember
 leaving_next : (f : PcmFormat) (l : List Stage) (X : List Frame) → format_leaving f (chain_next l X) ≡ format_leaving f l

@@ -22,8 +22,8 @@ use Rattle.ending.specs.StageEnd.{stage_end, frames_at_end, last_of}
 use Rattle.ending.specs.laws.StageEnd.{stage_end-append, stage_end_count}
 use Rattle.finish.specs.FinishCall.{chain_end, room_at_end, end_verdict}
 use Rattle.stream.specs.PlainChain.{plain_stage, plain_memory, plain_state, through}
-use Rattle.stream.specs.laws.PlainChain.{stage_is_plain, memory_is_plain, plain_frames}
-use Rattle.stream.specs.laws.PlainRoom.{suits_still}
+use Rattle.stream.proofs.laws.PlainChain.{stage_is_plain, memory_is_plain, plain_frames}
+use Rattle.stream.proofs.laws.PlainRoom.{suits_still}
 use Rattle.stream.specs.PlainEnd.{plain_last, plain_ended, plain_end, ended_next, plain_room_at_end, plain_end_room}
 
 -- ---- the stages as opened deliver just that

@@ -17,7 +17,7 @@ use Rattle.resample.specs.Blocks.{joined, after_blocks}
 use Rattle.resample.specs.Neighbours.{sample_in, DeliveredSample}
 use Rattle.resample.specs.laws.Delivered.{gaps_is, carried_is_whole, whole_length, resampled_count_lem}
 use Rattle.resample.specs.laws.Blocks.{joined_is_resampled, after_blocks_is_state, resampled_is_whole, state_is_whole}
-use Rattle.resample.specs.laws.Neighbours.{among_frames, outputs_sample}
+use Rattle.resample.proofs.laws.Neighbours.{among_frames, outputs_sample}
 
 -- ---- of the T frames X received
 -- output k is delivered exactly while k * in_r < (T - 1) * out_r

@@ -25,7 +25,7 @@ use Rattle.stream.specs.Opened.{kinds_in, FreshlyOpened}
 use Rattle.stream.specs.PlainRoom.{plain_verdict}
 use Rattle.stream.specs.Stream.{Stream, fed, within, after_feeding, after_calls}
 use Rattle.stream.specs.FromChain.{Since}
-use Rattle.stream.specs.laws.AfterCalls.{Stands, verdict_plain, stands_within, after_call_lem}
+use Rattle.stream.proofs.laws.AfterCalls.{Stands, verdict_plain, stands_within, after_call_lem}
 use Rattle.stream.specs.Counters.{held_count, one_if_accepted, accepted_by, accepted_from, one_if_nothing, nothing_by, nothing_from}
 
 -- ---- one call

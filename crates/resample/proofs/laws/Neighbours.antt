@@ -14,7 +14,7 @@ use Rattle.pcm.specs.Frames.{Frame, FrameOf, FramesOf}
 use Rattle.rates.specs.Counting.{tabulate, count}
 use Rattle.rates.specs.laws.Counting.{length_tabulate, get_d_tabulate, all_tabulate, count_before, step_positive, factor_positive}
 use Rattle.resample.specs.Value.{value, frac}
-use Rattle.resample.specs.laws.Value.{interpolated_between, interpolated_fits, samples_apart, frac_below, value_near_line}
+use Rattle.resample.proofs.laws.Value.{interpolated_between, interpolated_fits, samples_apart, frac_below, value_near_line}
 use Rattle.resample.specs.Resample.{blend, output_at, gaps, among, first_at, outputs_from, carried_outputs, resampled}
 use Rattle.rates.specs.declared.LinearResampler.{LinearResampler}
 use Rattle.rates.specs.declared.ResamplerState.{ResamplerState}

@@ -22,17 +22,17 @@ use Rattle.finish.specs.FinishCall.{chain_end, end_clipped, end_verdict, finish_
 use Rattle.stream.specs.Calls.{Call, block, reset, finish, Lent, Run, fresh, after_call}
 use Rattle.stream.specs.Opened.{kinds_in, FreshlyOpened}
 use Rattle.stream.specs.PlainChain.{plain_out, plain_state}
-use Rattle.stream.specs.laws.PlainChain.{chain_is_plain, state_is_plain}
+use Rattle.stream.proofs.laws.PlainChain.{chain_is_plain, state_is_plain}
 use Rattle.finish.specs.laws.ChainEnd.{clear_is_opened}
 use Rattle.stream.specs.PlainClipped.{plain_clips, plain_end_clips}
-use Rattle.stream.specs.laws.PlainClipped.{clips_are_plain, end_clips_are_plain}
+use Rattle.stream.proofs.laws.PlainClipped.{clips_are_plain, end_clips_are_plain}
 use Rattle.stream.specs.PlainRoom.{plain_verdict}
-use Rattle.stream.specs.laws.PlainRoom.{suited_still, verdict_is_plain}
+use Rattle.stream.proofs.laws.PlainRoom.{suited_still, verdict_is_plain}
 use Rattle.stream.specs.PlainEnd.{plain_end, plain_finish}
-use Rattle.stream.specs.laws.PlainEnd.{chain_end_is_plain, end_room_is_plain}
+use Rattle.stream.proofs.laws.PlainEnd.{chain_end_is_plain, end_room_is_plain}
 use Rattle.stream.specs.Stream.{Stream, running, ended, fed, within, ended_by, after_feeding, stream_from, stream_of, after_calls, run_of}
 use Rattle.stream.specs.FromChain.{Since, EndedSince}
-use Rattle.stream.specs.laws.FromChain.{begun, after_reset, after_block, finish_accepted, finish_refused, anew, as_before}
+use Rattle.stream.proofs.laws.FromChain.{begun, after_reset, after_block, finish_accepted, finish_refused, anew, as_before}
 
 module _ (o : Pipeline) (opened : FreshlyOpened o) where
   -- the chain as opened

@@ -23,7 +23,7 @@ use Rattle.pipeline.specs.declared.Pipeline.{Pipeline}
 use Rattle.pipeline.specs.declared.Opened.{Opened}
 use Rattle.pipeline.specs.Opening.{Stages, opened, refused, asked, front, next_kind, open_records, open_stages, unused_stage, chain_of, open_call}
 use Rattle.opening.specs.Opening.{stage_verdict, stage_kind_of}
-use Rattle.pipeline.specs.laws.Opening.{zero_not_one, open_none, stage_fits}
+use Rattle.pipeline.proofs.laws.Opening.{zero_not_one, open_none, stage_fits}
 use Rattle.writing.specs.WritingBack.{record_of_stage, recipe_of}
 use Rattle.pipeline.specs.WritingBack.{stages_of}
 use Rattle.pipeline.specs.RoundTrip.{OpenedFrom}

@@ -23,10 +23,10 @@ use Rattle.recipe.specs.Records.{of_note, kind_at, record_at, record_verdict, re
 use Rattle.pipeline.specs.declared.Pipeline.{Pipeline}
 use Rattle.pipeline.specs.Opening.{Stages, opened, refused, asked, front, next_kind, open_records, open_stages, unused_stage, chain_of, opened_of}
 use Rattle.opening.specs.Opening.{settings_allowed, stage_verdict, stage_kind_of, record_suits}
-use Rattle.pipeline.specs.laws.Opening.{zero_not_one, stage_fits}
+use Rattle.pipeline.proofs.laws.Opening.{zero_not_one, stage_fits}
 use Rattle.block.specs.BlockCall.{suited}
 use Rattle.stream.specs.Opened.{RatesReduced, FreshlyOpened}
-use Rattle.stream.specs.laws.Opened.{chain_as_opened, opened_with}
+use Rattle.stream.proofs.laws.Opened.{chain_as_opened, opened_with}
 
 and_true : {a b : Bool} → a ≡ true → b ≡ true → (a && b) ≡ true
 and_true p q = ap₂ ◌&&◌ p q
