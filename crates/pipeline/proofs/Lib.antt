@@ -3,4 +3,5 @@ mod Opens
 mod ResetLaws
 mod Writing
 pub mod laws
+pub mod RecipeKept
 pub mod Theorems

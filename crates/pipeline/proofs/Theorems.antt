@@ -20,6 +20,7 @@ use Rattle.recipe.specs.laws.Notes.{records_bytes}
 use Rattle.pipeline.specs.Opening.{Stages, asked, open_stages, chain_of, opened_of, open_call}
 use Rattle.pipeline.proofs.laws.Opening.{open_none}
 use Rattle.writing.specs.WritingBack.{recipe_of}
+use Rattle.pipeline.proofs.RecipeKept.{recipe_kept}
 use Rattle.pipeline.proofs.laws.RoundTrip.{opened_few, whole_records, opened_recipe, open_without_notes, recipe_of_kinds, opened_stages, opened_from, count_is, format_is}
 
 pub reset_stages : (c : Pipeline) → c.count ≤ 8 → stages_of (reset_call c) ≡ map stage_clear (stages_of c)
@@ -45,19 +46,11 @@ module _ (f : PcmFormat) (bytes : List ℕ) (c : Pipeline) (e : open_call f byte
   unfolding open_stages
   opened_whole = let o = opened_from f bytes c e in whole_records 8 f (records bytes) o.stages o.opens
 
-  stages_are : stages_of c ≡ (opened_from f bytes c e).stages
-  stages_are = let o = opened_from f bytes c e in ap stages_of o.chain_is ∙ opened_stages f o.stages
-
   module _ (b : Bytes bytes) where
-    -- the records of its stages are the bytes that it was opened from, without the notes
-    pub recipe_kept : recipe_of (stages_of c) ≡ without_notes bytes
-    unfolding open_stages without_notes
-    recipe_kept = let o = opened_from f bytes c e in ap recipe_of stages_are ∙ opened_recipe 8 f (records bytes) o.stages (records_bytes 0 bytes b) o.opens
-
     -- every recipe that opens is written back without its notes, whatever its bits; needed is the bytes so written
     pub opened_writes : (out : List ℕ) → write_call c out ≡ write_outcome (room_verdict (length (without_notes bytes)) (length out)) (without_notes bytes) out
     unfolding write_call write_verdict
-    opened_writes out = rw (le-leb c.count 8 opened_count, recipe_kept)
+    opened_writes out = rw (le-leb c.count 8 opened_count, recipe_kept f bytes c e b)
 
     -- and unchanged where it holds none
     pub opened_writes_exactly : notes_in bytes ≡ [] → (out : List ℕ) → write_call c out ≡ write_outcome (room_verdict (length bytes) (length out)) bytes out
@@ -67,12 +60,12 @@ module _ (f : PcmFormat) (bytes : List ℕ) (c : Pipeline) (e : open_call f byte
     pub written_opens : (d : Pipeline) → d.format ≡ c.format → kinds_of (stages_of d) ≡ kinds_of (stages_of c)
         → open_call d.format (recipe_of (stages_of d)) ≡ record { verdict = Accepted; chain = c }
     written_opens d g k =
-        ap₂ open_call (g ∙ opened_format) (recipe_of_kinds (stages_of d) (stages_of c) k ∙ recipe_kept) ∙ sym (notes_passed_over f bytes b opened_whole) ∙ e
+        ap₂ open_call (g ∙ opened_format) (recipe_of_kinds (stages_of d) (stages_of c) k ∙ recipe_kept f bytes c e b) ∙ sym (notes_passed_over f bytes b opened_whole) ∙ e
 
     -- a chain of no stages is a recipe of notes alone
     pub none_is_empty : c.count ≡ 0 → without_notes bytes ≡ []
     unfolding recipe_of
-    none_is_empty z = sym recipe_kept ∙ ap (λ (n : ℕ). recipe_of (take n c.stages)) z
+    none_is_empty z = sym (recipe_kept f bytes c e b) ∙ ap (λ (n : ℕ). recipe_of (take n c.stages)) z
 
 -- the empty recipe is a chain of no stages
 pub empty_is_none : (f : PcmFormat) → format_allowed f ≡ true → open_call f [] ≡ record { verdict = Accepted; chain = chain_of f [] }

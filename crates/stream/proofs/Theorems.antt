@@ -26,7 +26,7 @@ use Rattle.recipe.specs.Theorems.{no_notes}
 use Rattle.writing.specs.WritingBack.{recipe_of}
 use Rattle.pipeline.specs.WritingBack.{write_verdict, write_outcome, write_call, stages_of}
 use Rattle.pipeline.proofs.laws.RoundTrip.{recipe_of_kinds}
-use Rattle.pipeline.proofs.Theorems.{recipe_kept}
+use Rattle.pipeline.proofs.RecipeKept.{recipe_kept}
 use Rattle.answers.specs.declared.Scratch.TheVariants as scratch
 use Rattle.block.specs.BlockCall.{legal, block_verdict, scratch_bytes}
 use Rattle.block.specs.laws.Bounds.{legal_parts}
