@@ -1,6 +1,6 @@
 -- `desk::open` meets its contract. Assumes nothing.
 use borrow.Author.Rules.{rules}
-use mathlib.Core.Path.{◌≡◌, ap}
+use mathlib.Core.Path.{ap}
 use borrow.Author.Tests.{le-leb, lt-leb}
 use Rattle.pcm.specs.declared.Error.TheVariants.{TooLong}
 use Rattle.pcm.specs.declared.Verdict.TheVariants.{Refused}
@@ -13,13 +13,13 @@ use Rattle.desk.proofs.open.Tie as tie
 abbrev too_long : Opened → Opened
 too_long o = record { verdict = Refused TooLong; chain = o.chain }
 
-returns : tie.Need-returns
+returns : tie.Need-returns-then-recipe-gt-MAX_FILE
 unfolding desk_verdict desk_open
-returns c = rw (lt-leb _ 1048576 c.before.if1.true) (ap too_long c.before.before.«open».ensures)
+returns c = rw (lt-leb _ 1048576 c.if-recipe-gt-MAX_FILE.true) (ap too_long c.open-opened.ensures)
 
-returns-2 : tie.Need-returns-2
+returns-2 : tie.Need-returns
 unfolding desk_verdict desk_open
-returns-2 c = rw (le-leb _ 1048576 c.if1.false) c.before.«open».ensures
+returns-2 c = rw (le-leb _ 1048576 c.if-recipe-gt-MAX_FILE.false) c.open-opened.ensures
 
 pub open_spec : {M : Type 1} → statement M
 open_spec = tie.close (tie.spec (λ c κs. search rules) returns returns-2)

@@ -15,40 +15,40 @@ use Rattle.playing.proofs.Joining.{put_back}
 use Rattle.playing.proofs.join.Statement.{statement}
 use Rattle.playing.proofs.join.Tie as tie
 
-returns : tie.Need-returns
+returns : tie.Need-returns-in-Refused
 unfolding joined
-returns c = rw c.before.verdict.given.1
+returns c = rw c.in-Refused.is
 
 -- where the call was accepted: its output
-abbrev start : tie.After-output → tie.Start
-start c = c.before.before.before.before.before.before
+abbrev start : tie.After-output-output → tie.Start
+start c = c.before.before.before.before.before
 
-output_is : (c : tie.After-output) → let a = (start c).args in c.output.result.now ≡ output_of a.piece.half a.piece.len a.a.now a.b.now
-output_is c = c.output.ensures
+output_is : (c : tie.After-output-output) → let a = (start c).args in c.output-output.result.now ≡ output_of a.piece.half a.piece.len a.a.now a.b.now
+output_is c = c.output-output.ensures
 
-returns-2 : tie.Need-returns-2
+returns-2 : tie.Need-returns-then-out-n
 unfolding joined
 returns-2 c =
     let o = c.before in
     let a = (start o).args in
-    let e : leb (a.n + length o.output.result.now) (length a.out.now) ≡ false = lt-leb (a.n + length o.output.result.now) (length a.out.now) (omega arith) in
-    rw (o.before.enum_told.given.1, ← output_is o, e)
+    let e : leb (a.n + length c.output-output.result.now) (length a.out.now) ≡ false = lt-leb (a.n + length c.output-output.result.now) (length a.out.now) (omega arith) in
+    rw (c.in_default.is, ← output_is o, e)
 
 abbrev outcome : ℕ → List ℕ → Joined
 outcome n out = record { gathered = gathered.Bytes n; out = out }
 
-returns-3 : tie.Need-returns-3
+returns-3 : tie.Need-returns
 unfolding joined
 returns-3 c =
     let f = c.before.before in
     let o = f.before.before.before in
     let a = (start o).args in
-    let e : leb (a.n + length o.output.result.now) (length a.out.now) ≡ true = le-leb (a.n + length o.output.result.now) (length a.out.now) (omega arith) in
-    rw (o.before.enum_told.given.1, ← output_is o, e)
-    (ap (outcome (a.n + length o.output.result.now)) (put_back a.n o.output.result.now a.out.now f.copy-front.new.1.0 f.copy-front.ensures))
+    let e : leb (a.n + length c.output-output.result.now) (length a.out.now) ≡ true = le-leb (a.n + length c.output-output.result.now) (length a.out.now) (omega arith) in
+    rw (c.in_default.is, ← output_is o, e)
+    (ap (outcome (a.n + length c.output-output.result.now)) (put_back a.n c.output-output.result.now a.out.now c.copy_front.new.out c.copy_front.ensures))
 
-pub join-spec : {M : Type 1} → statement M
-join-spec = tie.close (tie.spec
+pub join_spec : {M : Type 1} → statement M
+join_spec = tie.close (tie.spec
     (λ c. search rules)
     returns
     (λ c. search rules)

@@ -55,15 +55,15 @@ module _ {c : Pipeline} {f : PcmFormat} {size count : ℕ} {sound a₀ b₀ out�
     after : After o.got out₀ (call_output r) r.chain r.a r.b (block_gathered (length out₀) r o.got) j
     after = rw (q ∙ block_joined r n out) (joins (call_output r) o.holds r.chain r.a r.b (verdict_by r.answer))
 
-    pub runs-stopped : (x : Error) → j.gathered ≡ gathered.Refused x → record { gathered = j.gathered; a = r.a; b = r.b; out = j.out } ≡ left out₀ whole
-    runs-stopped x g = by after
+    pub runs_stopped : (x : Error) → j.gathered ≡ gathered.Refused x → record { gathered = j.gathered; a = r.a; b = r.b; out = j.out } ≡ left out₀ whole
+    runs_stopped x g = by after
       where
         by : After o.got out₀ (call_output r) r.chain r.a r.b (block_gathered (length out₀) r o.got) j → record { gathered = j.gathered; a = r.a; b = r.b; out = j.out } ≡ left out₀ whole
         by (onward p m i l) = absurd (never (sym i ∙ g))
         by (ended d p i l) = rw (step, p, i, l)
 
-    pub runs-onward : (m : ℕ) → j.gathered ≡ gathered.Bytes m → Runs c f size count sound a₀ b₀ out₀ r.chain m (block_end at size (length sound)) later r.a r.b j.out
-    runs-onward m g = by after
+    pub runs_onward : (m : ℕ) → j.gathered ≡ gathered.Bytes m → Runs c f size count sound a₀ b₀ out₀ r.chain m (block_end at size (length sound)) later r.a r.b j.out
+    runs_onward m g = by after
       where
         by : After o.got out₀ (call_output r) r.chain r.a r.b (block_gathered (length out₀) r o.got) j → Runs c f size count sound a₀ b₀ out₀ r.chain m (block_end at size (length sound)) later r.a r.b j.out
         by (ended d p i l) = absurd (never (sym g ∙ i))
@@ -77,8 +77,8 @@ module _ {c : Pipeline} {f : PcmFormat} {size count : ℕ} {sound a₀ b₀ out�
     unfolding play_blocks
     last = o.is ∙ rw (k, ← e)
 
-    pub runs-end : record { gathered = j.gathered; a = r.a; b = r.b; out = j.out } ≡ left out₀ whole
-    runs-end = by (rw (q ∙ finish_joined r n out) (joins (finish_output r) o.holds r.chain r.a r.b (finish_verdict_by r.answer)))
+    pub runs_end : record { gathered = j.gathered; a = r.a; b = r.b; out = j.out } ≡ left out₀ whole
+    runs_end = by (rw (q ∙ finish_joined r n out) (joins (finish_output r) o.holds r.chain r.a r.b (finish_verdict_by r.answer)))
       where
         by : After o.got out₀ (finish_output r) r.chain r.a r.b (finish_gathered (length out₀) r o.got) j → record { gathered = j.gathered; a = r.a; b = r.b; out = j.out } ≡ left out₀ whole
         by (ended d p i l) = rw (last, p, i, l)

@@ -1,5 +1,5 @@
 -- The limits of a format that is allowed. Assumes nothing.
-use Rattle.std.specs.Prelude.{◌≡◌, true, ℕ, ◌*◌, ◌≤◌, ◌<◌, leb, ltb}
+use Rattle.std.specs.Prelude.{◌≡◌, true, ◌*◌, ◌≤◌, ◌<◌, leb, ltb}
 use Rattle.std.proofs.Common.{arith, mul-le-mul, ltb-true, leb-true}
 use Rattle.pcm.specs.declared.PcmFormat.{PcmFormat}
 use Rattle.pcm.specs.Formats.{format_allowed, channels_allowed, rate_allowed, frame_bytes}

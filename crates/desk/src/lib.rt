@@ -1,5 +1,6 @@
 // What the programs at the desk take (document 02, Q-4 and Q-7).
 #![tactic(auto)]
+
 ghost use mathlib.Core.Path.{◌≡◌};
 ghost use Rattle.desk.specs.Desk.{desk_open};
 
