@@ -77,7 +77,7 @@ class Names:
         return None
 
 
-def turn_path(parts, names, aliases, miss):
+def turn_path(parts, names, miss):
     """The parts of a.b.c"""
     head, out = parts[0], []
     if head == "tie" and len(parts) == 2:
@@ -145,7 +145,7 @@ def turned(text, names, function, miss):
             parts = t[len(lead):].split(".")
             if lead:
                 parts = ["x"] + parts
-            new = turn_path(parts, names, None, miss)
+            new = turn_path(parts, names, miss)
             return lead + ".".join(new[1:] if lead else new)
         return t
 
