@@ -112,8 +112,6 @@ process_spec = tie.close (tie.spec
     (λ c κs. turn_asks _ _ _ _ _ _ _ _ _ _ _ _ c.loop-i-2.invariant c.loop-i-2-test.true)
     (λ c κs. search rules) (λ c. search rules) (λ c. search rules)
     (λ c.
-    let t = c.before.before.before.before.before.before.before in
-    let l = t.before.before.before.before.before in
     record { fits = omega (arith, sum_fits _ _ _ _ _ _ _ _ _ _ _ _ c.loop-i-2.invariant c.loop-i-2-test.true c.turn-t.ensures.does.holds) })
     (λ c κs. search rules) (λ c κs. search rules)
     (λ c.
@@ -121,9 +119,6 @@ process_spec = tie.close (tie.spec
     let l = t.before.before.before.before.before in
     next_less c.loop-i-2.i (s (b l.before.before.before.before.before)).args.chain.count c.turn-t.result.len _ c.loop-i-2-test.true c.next_stage-i.ensures)
     (λ c.
-    let j = c.before.before.before in
-    let t = j.before.before.before.before.before.before in
-    let l = t.before.before.before.before.before in
     elim c.if-remembers.branch [
       | then-remembers w ↦ stored _ _ _ _ _ _ _ _ _ _ _ _ c.loop-i-2.invariant c.loop-i-2-test.true _ _ _ _ _ c.turn-t.ensures c.format_after-reaching.ensures _ c.next_stage-i.ensures _ w.chain-is
       | else-remembers w ↦ stayed _ _ _ _ _ _ _ _ _ _ _ _ c.loop-i-2.invariant c.loop-i-2-test.true _ _ _ _ _ c.turn-t.ensures c.format_after-reaching.ensures _ c.next_stage-i.ensures _ w.chain-is (sym c.remembers.ensures ∙ w.if-remembers.false)

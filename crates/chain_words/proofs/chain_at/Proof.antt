@@ -14,9 +14,6 @@ use Rattle.chain_words.proofs.chain_at.Tie as tie
 returns : tie.Need-returns
 unfolding chain_at
 returns c =
-    let k = c.before.before in
-    let f = k.before in
-    let s = f.before in
     let w = c.args.w.now in (
       rw (c.stages_of-stages.ensures, c.format_of-format.ensures, c.counter_at.ensures, c.counter_at-2.ensures),
       subst (λ (l : List Stage). All Small l) (sym c.stages_of-stages.ensures) (small_stages w c.shared_slice_known-2-1.given 0 8),

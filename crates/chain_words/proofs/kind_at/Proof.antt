@@ -14,7 +14,6 @@ use Rattle.chain_words.proofs.kind_at.Tie as tie
 
 returns : tie.Need-returns
 returns c =
-    let s = c.before.before in
     let w = c.args.w.now in
     let i = c.args.i in
     let e : c.kind_of.result ≡ (stage_at w i).kind = c.kind_of.ensures ∙ ap (λ (x : List ℕ). kind_of x (word x 0)) (part_to_end w (8 + 18 * i)) in

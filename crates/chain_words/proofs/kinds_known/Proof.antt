@@ -20,18 +20,16 @@ loop-holds c = let n = c.args.count in let e : n - 0 ≡ n = omega arith in (ome
 
 returns : tie.Need-returns-then-not-kind_known invariant-loop decreases-loop
 returns c =
-    let l = c.before.before.before.before in
     let a = c.args in
     sym (c.loop-i.invariant.1 ∙ kinds_next a.w.now c.loop-i.i a.count false (omega arith) (sym c.kind_known.ensures ∙ c.if-not-kind_known.true))
 
 loop-again : tie.Need-loop-i-preserved invariant-loop decreases-loop
 loop-again c =
-    let l = c.before.before.before.before in
     let a = c.args in
     (omega arith, c.loop-i.invariant.1 ∙ kinds_next a.w.now c.loop-i.i a.count true (omega arith) (sym c.kind_known.ensures ∙ c.if-not-kind_known.false))
 
 returns-2 : tie.Need-returns invariant-loop decreases-loop
-returns-2 c = let l = c.before in let a = c.args in sym (c.loop-i.invariant.1 ∙ kinds_end a.w.now c.loop-i.i a.count (omega arith))
+returns-2 c = let a = c.args in sym (c.loop-i.invariant.1 ∙ kinds_end a.w.now c.loop-i.i a.count (omega arith))
 
 pub kinds_known_spec : {M : Type 1} → statement M
 kinds_known_spec = tie.close (tie.spec invariant-loop decreases-loop

@@ -13,7 +13,6 @@ use Rattle.chain_words.proofs.memory_at.Tie as tie
 
 returns : tie.Need-returns
 returns c =
-    let s = c.before.before in
     let w = c.args.w.now in
     let i = c.args.i in
     let e : c.memory_of.result ≡ (stage_at w i).memory = c.memory_of.ensures ∙ ap memory_of (part_to_end w (8 + 18 * i)) in

@@ -43,7 +43,6 @@ put-stage-at-requires c κs =
 
 loop-again : tie.Need-loop-i-preserved invariant-loop decreases-loop
 loop-again c =
-    let l = c.before.before.before.before.before.before in
     let st = c.args.chain.stages in
     let w₀ = c.put_head.new.w in
     let i = c.loop-i.i in
@@ -65,7 +64,6 @@ same_length c = long c.before
 returns : tie.Need-returns invariant-loop decreases-loop
 unfolding words_of
 returns c =
-    let l = c.before in
     let a = c.args in
     let st = a.chain.stages in
     let w = a.w.now in

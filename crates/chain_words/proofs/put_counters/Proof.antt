@@ -6,8 +6,6 @@ use Rattle.chain_words.proofs.put_counters.Tie as tie
 
 returns : tie.Need-returns
 returns c =
-    let c2 = c.before.before in
-    let c1 = c2.before.before.before.before in
     c.put_counter-2.ensures ∙ rw c.put_counter.ensures
 
 pub put_counters_spec : {M : Type 1} → statement M

@@ -9,7 +9,6 @@ use Rattle.chain_words.proofs.put_head.Tie as tie
 
 slice-write-w-4 : tie.Need-bounds-w-7
 slice-write-w-4 c =
-    let a = c.before.before.before.before.before.before.before.before in
     let n : length c.put_counters.new.w ≡ length c.args.w.now = ap length c.put_counters.ensures ∙ simp length-set in
     omega (arith, n, c.requires)
 

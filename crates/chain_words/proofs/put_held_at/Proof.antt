@@ -10,24 +10,18 @@ use Rattle.chain_words.proofs.put_held_at.Tie as tie
 returns-4 : tie.Need-returns-in-Resample
 unfolding held_at held_words
 returns-4 c =
-    let p = c.before.before in
-    let t = p.before.before in
     let a = c.args in
     rw c.in-Resample.is (part_run (state_words a.m.resampler) a.w.now _ (8 + 18 * a.i) 15 c.put_state.ensures.0, c.put_state.ensures.1)
 
 returns-5 : tie.Need-returns-in-DcBlock
 unfolding held_at held_words
 returns-5 c =
-    let p = c.before.before in
-    let t = p.before.before in
     let a = c.args in
     rw c.in-DcBlock.is (part_run (filter_words a.m.filter) a.w.now _ (8 + 18 * a.i) 7 c.put_filter.ensures.0, c.put_filter.ensures.1)
 
 returns-6 : tie.Need-returns-in-Biquad
 unfolding held_at held_words
 returns-6 c =
-    let p = c.before.before in
-    let t = p.before.before in
     let a = c.args in
     rw c.in-Biquad.is (part_run (filter_words a.m.filter) a.w.now _ (8 + 18 * a.i) 7 c.put_filter-in-Biquad.ensures.0, c.put_filter-in-Biquad.ensures.1)
 

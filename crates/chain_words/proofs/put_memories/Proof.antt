@@ -36,7 +36,6 @@ put-memory-at-requires c κs = let l = c.before.before.before.before in (omega a
 
 loop-again : tie.Need-loop-i-preserved invariant-loop decreases-loop
 loop-again c =
-    let l = c.before.before.before.before.before.before.before in
     let st = c.args.stages in
     let w₀ = c.args.w.now in
     let i = c.loop-i.i in
@@ -55,7 +54,6 @@ loop-again c =
 
 returns : tie.Need-returns invariant-loop decreases-loop
 returns c =
-    let l = c.before in
     let e : c.loop-i.i ≡ c.args.count = omega arith in
     (rw e at c.loop-i.invariant.2, rw e at c.loop-i.invariant.3)
 

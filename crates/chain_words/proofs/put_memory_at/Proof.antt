@@ -9,7 +9,6 @@ use Rattle.chain_words.proofs.put_memory_at.Tie as tie
 returns : tie.Need-returns
 returns c =
     let a = c.args in
-    let p = c.before.before in
     (part_run (memory_words a.m) a.w.now _ (8 + 18 * a.i) 7 c.put_memory.ensures.0, c.put_memory.ensures.1, c.put_memory.ensures.2)
 
 pub put_memory_at_spec : {M : Type 1} → statement M

@@ -8,8 +8,6 @@ use Rattle.chain_words.proofs.put_sound.Tie as tie
 returns : tie.Need-returns
 unfolding with_sound
 returns c =
-    let b = c.before.before in
-    let a = b.before.before.before.before in
     (c.put_counters.ensures ∙ rw c.put_memories.ensures.0, c.put_memories.ensures.1)
 
 pub put_sound_spec : {M : Type 1} → statement M

@@ -12,7 +12,6 @@ use Rattle.chain_words.proofs.put_stage_at.Tie as tie
 returns : tie.Need-returns
 returns c =
     let a = c.args in
-    let p = c.before.before in
     let e : 8 + 18 * a.i + 0 ≡ 8 + 18 * a.i = omega arith in
     (part_run (words_of_stage a.s) a.w.now _ (8 + 18 * a.i) 0 c.put_stage.ensures.0 ∙ ap (λ (n : ℕ). sets a.w.now n (words_of_stage a.s)) e, c.put_stage.ensures.1)
 

@@ -7,13 +7,6 @@ use Rattle.chain_words.proofs.stages_of.Tie as tie
 returns : tie.Need-returns
 unfolding chain_at
 returns c =
-    let c7 = c.before in
-    let c6 = c7.before in
-    let c5 = c6.before in
-    let c4 = c5.before in
-    let c3 = c4.before in
-    let c2 = c3.before in
-    let c1 = c2.before in
     rw (c.stage_at.ensures, c.stage_at-2.ensures, c.stage_at-3.ensures, c.stage_at-4.ensures, c.stage_at-5.ensures, c.stage_at-6.ensures, c.stage_at-7.ensures, c.stage_at-8.ensures)
 
 pub stages_of_spec : {M : Type 1} → statement M

@@ -9,8 +9,6 @@ use Rattle.channels.proofs.mean_at.Tie as tie
 
 returns : tie.Need-returns
 returns c =
-    let right = c.before in
-    let left = right.before in
     answered w16 c.mean_i16.type_inv c.mean_i16.ensures
     ∙ ap₂ mean (answered w16 c.get_i16.type_inv c.get_i16.ensures) (answered w16 c.get_i16-2.type_inv c.get_i16-2.ensures)
 

@@ -46,7 +46,6 @@ module _ (s : List ℕ) where
 
 loop-again : tie.Need-loop-k-preserved invariant-loop decreases-loop
 loop-again c =
-    let l = c.before.before in
     let s = c.args in (
       omega arith,
       simp length-set c.loop-k.invariant.1,
@@ -55,7 +54,6 @@ loop-again c =
 
 returns : tie.Need-returns invariant-loop decreases-loop
 returns c =
-    let l = c.before in
     let e : c.loop-k.k ≡ 16 = omega arith in
     let s = c.args.s.now in
     sym (ap encode (take_all 16 c.loop-k.a (omega arith))) ∙ (rw e at c.loop-k.invariant.2) ∙ ap mono_bytes (take_all 64 s (omega arith))

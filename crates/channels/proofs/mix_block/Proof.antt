@@ -22,11 +22,6 @@ decreases-loop a b out₀ n i₀ out i = n - i
 loop-again : tie.Need-loop-i-preserved invariant-loop decreases-loop
 unfolding sample_at mixed_bytes
 loop-again c =
-    let put = c.before.before in
-    let sum = put.before in
-    let get = sum.before.before in
-    let loop = get.before.before.before in
-    let s = loop.before.before.before.before in
     let a = c.args.a.now in
     let b = c.args.b.now in
     let i = c.loop-i.i in
@@ -45,7 +40,7 @@ returns c =
 
 pub mix_block_spec : {M : Type 1} → statement M
 mix_block_spec = tie.close (tie.spec invariant-loop decreases-loop
-    (λ c. let s = c.before.before.before in (omega arith, refl, writing_start _ _ _ (sym (length_mixed _ _ c.requires.1 c.requires.0))))
+    (λ c. (omega arith, refl, writing_start _ _ _ (sym (length_mixed _ _ c.requires.1 c.requires.0))))
     (λ c κs. omega arith) (λ c κs. omega arith) (λ c κs. tt) (λ c κs. omega arith) (λ c. omega arith) (λ c. omega arith)
     loop-again
     (λ c. c.loop-i.invariant.2.len)

@@ -18,13 +18,12 @@ abbrev decreases-loop : tie.decreases-loop-at
 decreases-loop a b n at₀ c₀ at c = n - at
 
 ends : (c : tie.After-least invariant-loop decreases-loop) → Span (length c.args.a.now) c.loop-at.at c.least.result
-ends c = let loop = c.before.before in span c.least.ensures (omega arith) (omega arith) c.requires.0 c.loop-at.invariant.even c.loop-at.invariant.inside
+ends c = span c.least.ensures (omega arith) (omega arith) c.requires.0 c.loop-at.invariant.even c.loop-at.invariant.inside
 
 span-clipped-requires : tie.Need-span_clipped-requires invariant-loop decreases-loop
 span-clipped-requires c κs =
     let least = c.before.before in
     let e = ends least in
-    let s = least.before.before.before.before.before in
     let la = part_length c.args.a.now _ _ e.after e.inside in
     let lb = part_length c.args.b.now _ _ e.after (omega (arith, e.inside, c.requires.1)) in
     (rw la e.whole, la ∙ sym lb, rw la (omega (arith, e.short)))
@@ -33,8 +32,6 @@ loop-again : tie.Need-loop-at-preserved invariant-loop decreases-loop
 unfolding mix_clipped
 loop-again c =
     let least = c.before.before.before in
-    let loop = least.before.before in
-    let s = loop.before.before.before in
     let a = c.args.a.now in
     let b = c.args.b.now in
     let at = c.loop-at.at in

@@ -22,9 +22,6 @@ decreases-loop input out₀ n i₀ j₀ out i j = n - i
 loop-again : tie.Need-loop-i-preserved invariant-loop decreases-loop
 unfolding sample_at
 loop-again c =
-    let put = c.before.before in
-    let read = put.before in
-    let l = read.before.before.before in
     let input = c.args.input.now in
     let i = c.loop-i.i in
     let rest = writing_as c.loop-i.invariant.3 (ap mono_bytes (next_four input i (omega arith)) ∙ mono_next _ _ (drop (i + 4) input) _ _) in

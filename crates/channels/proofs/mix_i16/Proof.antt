@@ -30,7 +30,7 @@ promised a b out v e f g =
 
 -- past the first question the verdict is that on the room
 room_is : (c : tie.After-require_room) → let s = c.args in mix_verdict s.a.now s.b.now s.out.now ≡ c.require_room.result
-room_is c = let e = c.before.before in mix_asks_room _ _ _ c.if-n-b.false c.if-n-ne0.false ∙ sym c.require_room.ensures
+room_is c = mix_asks_room _ _ _ c.if-n-b.false c.if-n-ne0.false ∙ sym c.require_room.ensures
 
 room_there : (c : tie.In-Accepted) → let s = c.args in length s.a.now ≤ length s.out.now
 room_there c = room_enough _ _ (sym c.require_room.ensures ∙ c.in-Accepted.is)
@@ -38,7 +38,6 @@ room_there c = room_enough _ _ (sym c.require_room.ensures ∙ c.in-Accepted.is)
 mix-block-requires : tie.Need-mix_block-requires
 mix-block-requires c κs =
     let told = c.before.before in
-    let e = told.before.before.before in
     (c.if-n-ne0.false, c.if-n-b.false, room_there told)
 
 returns-4 : tie.Need-returns-in-Accepted

@@ -22,10 +22,6 @@ decreases-loop input out₀ n i₀ j₀ out i j = n - i
 loop-again : tie.Need-loop-i-preserved invariant-loop decreases-loop
 unfolding sample_at
 loop-again c =
-    let put2 = c.before.before in
-    let put = put2.before.before.before.before in
-    let get = put.before.before in
-    let loop = get.before.before in
     let input = c.args.input.now in
     let x = answered w16 c.get_i16-x.type_inv c.get_i16-x.ensures in
     let e : c.loop-i.j + 2 + 2 ≡ c.loop-i.j + 4 = omega arith in

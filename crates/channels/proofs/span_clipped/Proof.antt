@@ -23,11 +23,6 @@ decreases-loop a b n i₀ c₀ i c = n - i
 
 loop-again : tie.Need-loop-i-preserved invariant-loop decreases-loop
 loop-again c =
-    let asked = c.before in
-    let get2 = asked.before in
-    let get = get2.before in
-    let loop = get.before.before in
-    let s = loop.before.before.before in
     let even = c.loop-i.invariant.even in
     counting_next c.loop-i.invariant c.requires.0 (omega arith)
     (sums_next c.args.a.now c.args.b.now c.loop-i.i (omega arith) c.requires.1)

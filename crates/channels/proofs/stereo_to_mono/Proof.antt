@@ -39,9 +39,6 @@ module _ (input : List ℕ) (i : ℕ) (h : i ≤ length input) (e : i % 4 ≡ 0)
 
 loop-again : tie.Need-loop-i-preserved invariant-loop decreases-loop
 loop-again c =
-    let put = c.before.before in
-    let read = put.before.before in
-    let l = read.before.before.before in
     let s = c.args in
     let input = s.input.now in
     let out₀ = s.out.now in
@@ -63,8 +60,6 @@ loop-again c =
 
 returns : tie.Need-returns invariant-loop decreases-loop
 returns c =
-    let each = c.before.before in
-    let l = each.before.before.before.before in
     let s = c.args in
     let i = c.loop-i.i in
     let even = c.loop-i.invariant.1 in
@@ -74,7 +69,6 @@ returns c =
 
 same_length : tie.Need-shape_of-out invariant-loop decreases-loop
 same_length c =
-    let s = c.before.before.before.before.before.before.before.before.before in
     let input = c.args.input.now in
     ap length (returns c) ∙ length_written (mono_bytes input) c.args.out.now (omega (arith, length_mono input c.requires.0))
 

@@ -10,7 +10,7 @@ use Rattle.end_turns.proofs.arrived.Tie as tie
 pub arrived_spec : {M : Type 1} → statement M
 arrived_spec = tie.close (tie.spec
     (λ c. let a = c.args in nothing_arrives a.format a.s a.input.now a.out.now c.if-input-eq0.true)
-    (λ c κs. let e = c.before in let k = e.before.before in let s = k.before in (
+    (λ c κs. (
       some_arrives c.args.format c.args.s c.args.input.now c.args.out.now c.requires c.if-input-eq0.false,
       frames_are_frames c.args.format.channels c.args.input.now (all_by_index (λ (b : ℕ). b < 256) 0 c.args.input.now (λ i h. (c.shared_slice_known-1.given i).fits)),
     ))

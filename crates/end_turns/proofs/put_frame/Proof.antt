@@ -14,8 +14,6 @@ use Rattle.end_turns.proofs.put_frame.Tie as tie
 
 returns : tie.Need-returns-then-channels-eq1
 returns c =
-    let l = c.before.before.before.before.before.before in
-    let s = l.before.before in
     let two : length c.args.last ≡ 2 = search rules in
     let f : SFits w16 (get_or c.args.last 0 (pos 0)) = record { sfits = c.left-1.given } in
     mono_fronted c.args.last c.args.out.now two c.args.channels _ c.if-channels-eq1.true (omega (arith, c.requires))
@@ -23,10 +21,6 @@ returns c =
 
 returns-2 : tie.Need-returns
 returns-2 c =
-    let e = c.before.before.before.before in
-    let p = e.before.before.before in
-    let r = p.before.before in
-    let s = r.before.before.before in
     let two : length c.args.last ≡ 2 = search rules in
     let f : SFits w16 (get_or c.args.last 0 (pos 0)) = record { sfits = c.left-1.given } in
     let g : SFits w16 (get_or c.args.last 1 (pos 0)) = record { sfits = c.right-1.given } in

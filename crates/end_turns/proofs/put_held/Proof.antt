@@ -39,9 +39,6 @@ start c = c.before.before.before.before.before.before.before.before.before
 
 ends : (c : tie.After-put_frame-arg-1) → let a = (start c).args in resampler_end a.channels a.r a.s ≡ take a.channels a.s.last ∷ []
 ends c =
-    let z = c.before.before in
-    let p = z.before.before in
-    let e = p.before.before in
     let a = (start c).args in
     on_it a.channels a.r a.s c.if-r.false (not-false _ c.if-not-s.false) c.if-s-ne0.false
 
@@ -51,9 +48,9 @@ room ch fs f n e h = omega (arith, ap (λ (l : List Frame). length l * (ch * 2))
 pub put_held_spec : {M : Type 1} → statement M
 put_held_spec = tie.close (tie.spec
     (λ c. let a = c.args in none_fronted _ a.out.now (equal a.channels a.r a.s c.if-r.true))
-    (λ c. let e = c.before.before in let a = c.args in
+    (λ c. let a = c.args in
     none_fronted _ a.out.now (not_held a.channels a.r a.s c.if-r.false (not-true _ c.if-not-s.true)))
-    (λ c. let p = c.before.before in let e = p.before.before in let a = c.args in
+    (λ c. let a = c.args in
     none_fronted _ a.out.now (not_on_it a.channels a.r a.s c.if-r.false (not-false _ c.if-not-s.false) c.if-s-ne0.true))
     (λ c κs. let s = start c in (s.requires.0, room s.args.channels _ (take s.args.channels s.args.s.last) _ (ends c) s.requires.1))
     (λ c. search rules)

@@ -37,14 +37,14 @@ module _ (ch : ℕ) (k : StageKind) (m : SoundMemory) (out : List ℕ) where
 pub put_last_spec : {M : Type 1} → statement M
 put_last_spec = tie.close (tie.spec
     (λ c. search rules) (λ c. search rules) (λ c. search rules) (λ c. search rules) (λ c κs. search rules)
-    (λ c κs. let m = c.before in let t = m.before in let s = t.before.before.before in let a = c.args in
+    (λ c κs. let a = c.args in
     (c.requires.0, room a.channels a.kind a.memory a.out.now c.in-Resample.r c.held_samples-held.result c.in-Resample.is c.held_samples-held.ensures.0 _ c.requires.1))
     (λ c. search rules) (λ c. search rules)
     (λ c. let a = c.args in none a.channels a.kind a.memory a.out.now _ c.in-Gain.is refl)
     (λ c. let a = c.args in none a.channels a.kind a.memory a.out.now _ c.in-MonoToStereo.is refl)
     (λ c. let a = c.args in none a.channels a.kind a.memory a.out.now _ c.in-StereoToMono.is refl)
     (λ c. search rules)
-    (λ c. let d = c.before.before in let m = d.before.before in let t = m.before in let s = t.before.before.before in let a = c.args in
+    (λ c. let a = c.args in
     last a.channels a.kind a.memory a.out.now c.in-Resample.r c.held_samples-held.result c.in-Resample.is c.held_samples-held.ensures.0 _ _
     c.requires.0.1 c.held_samples-held.ensures.2 c.held_samples-held.ensures.1 c.put_held.ensures)
     (λ c. let a = c.args in none a.channels a.kind a.memory a.out.now _ c.in-DcBlock.is refl)

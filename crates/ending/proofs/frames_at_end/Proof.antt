@@ -10,7 +10,6 @@ pub frames_at_end_spec : {M : Type 1} → statement M
 unfolding frames_at_end
 frames_at_end_spec = tie.close (tie.spec (λ c. search rules) (λ c. search rules) (λ c. search rules) (λ c. search rules)
     (λ c κs.
-    let s = c.before.before.before in
     let r : Rates c.in-Resample.r = rw c.in-Resample.is at c.requires.1 in
     (r.in_r.0, product_fits c.requires.0 r.out_r.1 r.in_r.1))
     (λ c. search rules) (λ c. search rules)

@@ -54,14 +54,14 @@ pub resampled_to_end_spec : {M : Type 1} → statement M
 resampled_to_end_spec = tie.close (tie.spec
     (λ c. equal _ _ _ _ c.if-r.true)
     (λ c. search rules) (λ c κs. search rules)
-    (λ c. let e = c.before.before.before in let a = c.args in
+    (λ c. let a = c.args in
     c.up_to.ensures ∙ held a.r a.primed a.phase a.frames c.if-r.false c.if-primed.true)
-    (λ c. let e = c.before.before in let a = c.args in
+    (λ c. let a = c.args in
     nothing a.r a.primed a.phase a.frames c.if-r.false c.if-primed.false c.if-frames-eq0.true)
     (λ c. search rules)
-    (λ c. let s = c.before.before.before.before.before in let a = c.args in
+    (λ c. let a = c.args in
     record { fits = omega (arith, fewer a.frames a.r.out_r, c.requires) })
-    (λ c κs. let s = c.before.before.before.before.before in let a = c.args in
+    (λ c κs. let a = c.args in
     (c.requires.0, omega (arith, fewer a.frames a.r.out_r, c.requires)))
-    (λ c. let e = c.before.before.before.before in let a = c.args in
+    (λ c. let a = c.args in
     c.up_to-2.ensures ∙ first a.r a.primed a.phase a.frames c.if-r.false c.if-primed.false c.if-frames-eq0.false))

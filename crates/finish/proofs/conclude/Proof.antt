@@ -24,4 +24,4 @@ cleared c reset done f answer l g h e = rw (e, h, g, le-leb _ _ (legal_parts c l
 pub conclude_spec : {M : Type 1} → statement M
 conclude_spec = tie.close (tie.spec
     (λ c κs. search rules) (λ c κs. search rules) (λ c κs. search rules)
-    (λ c. let f = c.before in let o = f.before in cleared _ _ _ _ _ c.requires c.output_format-format.ensures c.finish_answered-answer.ensures c.reset-cleared.ensures))
+    (λ c. cleared _ _ _ _ _ c.requires c.output_format-format.ensures c.finish_answered-answer.ensures c.reset-cleared.ensures))

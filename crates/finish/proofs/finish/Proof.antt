@@ -37,12 +37,12 @@ module _ (c : Pipeline) (a b : List ℕ) (short : ℕ) (v : Verdict) (hs : short
 pub finish_spec : {M : Type 1} → statement M
 finish_spec = tie.close (tie.spec
     (λ c κs. search rules) (λ c κs. search rules) (λ c. search rules) (λ c. search rules)
-    (λ c κs. let t = c.before.before in let q = t.before in let s = q.before.before.before.before in
+    (λ c κs.
     finishes c.args.chain c.args.a.now c.args.b.now _ _ c.shorter_of-shorter.ensures c.finish_question-asked.ensures c.in-Accepted.is)
-    (λ c. let q = c.before in let s = q.before.before.before.before in
+    (λ c.
     with_told c.args.chain c.args.a.now c.args.b.now _
     (refused c.args.chain c.args.a.now c.args.b.now _ _ c.shorter_of-shorter.ensures c.finish_question-asked.ensures _ c.in-Refused.is))
     (λ c. search rules) (λ c. search rules)
-    (λ c. let p = c.before.before.before.before in let t = p.before.before.before in let q = t.before in let s = q.before.before.before.before in
+    (λ c.
     with_told c.args.chain c.args.a.now c.args.b.now _
     (c.play.ensures ∙ took c.args.chain c.args.a.now c.args.b.now _ _ c.shorter_of-shorter.ensures c.finish_question-asked.ensures c.in-Accepted.is)))

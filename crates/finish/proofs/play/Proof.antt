@@ -22,5 +22,4 @@ pub play_spec : {M : Type 1} → statement M
 play_spec = tie.close (tie.spec
     (λ c κs. search rules) (λ c κs. search rules) (λ c. search rules) (λ c. search rules)
     (λ c.
-    let e = c.before.before.before.before.before in
     played _ _ _ _ _ c.end_stages-done.ensures.0 c.end_stages-done.ensures.1 c.conclude.ensures))

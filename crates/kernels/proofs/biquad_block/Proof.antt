@@ -5,7 +5,6 @@ use Rattle.kernels.proofs.biquad_block.Tie as tie
 
 returns : tie.Need-returns
 returns c =
-    let call = c.before.before in
     let stage = c.new-stage.ensures in
     let memory = c.new.ensures in
     (rw (stage, memory) at c.process.ensures.bytes, rw (stage, memory) at c.process.ensures.clipped)

@@ -5,7 +5,6 @@ use Rattle.kernels.proofs.dc_block_block.Tie as tie
 
 returns : tie.Need-returns
 returns c =
-    let call = c.before.before in
     let new = c.new.ensures in
     (rw new at c.process.ensures.bytes, rw new at c.process.ensures.clipped)
 

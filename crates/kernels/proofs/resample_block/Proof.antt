@@ -8,7 +8,6 @@ process-requires c κs = rw c.new.ensures c.requires
 
 returns : tie.Need-returns
 returns c =
-    let p = c.before.before in
     let new = c.new.ensures in
     (rw new at c.process.ensures.frames_are, rw new at c.process.ensures.bytes_are)
 

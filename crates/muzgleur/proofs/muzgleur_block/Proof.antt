@@ -8,7 +8,6 @@ use Rattle.muzgleur.proofs.muzgleur_block.Tie as tie
 
 returns : tie.Need-returns
 returns c =
-    let p = c.before.before.before.before.before.before.before in
     let w = c.args.chain.now in (
       rw c.told.ensures (ap block_outcome c.process.ensures.0),
       rw c.told.ensures (block_words c.process.result w _ c.process.ensures.1),

@@ -24,8 +24,6 @@ returns-2 c =
     let p = c.before.before in
     let t = p.before.before in
     let o = t.before.before in
-    let n = o.before in
-    let a = n.before.before.before in
     let w = c.args.chain.now in
     let f : PcmFormat = record { rate = c.args.rate; channels = c.args.channels } in
     let q = o.open-opened.ensures in (

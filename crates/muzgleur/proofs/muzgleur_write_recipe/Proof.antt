@@ -6,7 +6,6 @@ use Rattle.muzgleur.proofs.muzgleur_write_recipe.Tie as tie
 
 returns : tie.Need-returns
 returns c =
-    let w = c.before.before.before in
     rw (c.told.ensures, ← c.chain_of-own.ensures.0, ← c.write_recipe.ensures.0) (refl, refl)
 
 pub muzgleur_write_recipe_spec : {M : Type 1} → statement M

@@ -43,19 +43,17 @@ room : (c : tie.After-line_size-size invariant-loop decreases-loop) → c.loop-a
 room c =
     let i = c.before.before.before in
     let l = i.before in
-    let s = l.before.before in
     omega (arith, sized c, line_room c.loop-at.invariant.1 c.loop-at-test.true, lines_fit (bytes_of l) c.requires.0, c.requires.1, c.loop-at.invariant.2)
 
 loop-again : tie.Need-loop-at-preserved invariant-loop decreases-loop
 loop-again c =
     let i = c.before.before.before in
-    let l = i.before in
     let w = c.loop-at.invariant.1 in
     rw c.get_u16-length.ensures
     (c.loop-at.invariant.0 ++ line_here (left_of i), walked_next w c.loop-at-test.true, ap₂ ◌+◌ c.loop-at.invariant.2 (sized c) ∙ sym (length-append c.loop-at.invariant.0 (line_here (left_of i))))
 
 returns : tie.Need-returns invariant-loop decreases-loop
-returns c = let l = c.before in c.loop-at.invariant.2 ∙ ap length (sym (walked_end c.loop-at.invariant.1 c.loop-at-test.false))
+returns c = c.loop-at.invariant.2 ∙ ap length (sym (walked_end c.loop-at.invariant.1 c.loop-at-test.false))
 
 pub lines_size_spec : {M : Type 1} → statement M
 lines_size_spec = tie.close (tie.spec invariant-loop decreases-loop

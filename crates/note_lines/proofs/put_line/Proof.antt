@@ -10,15 +10,11 @@ use Rattle.note_lines.proofs.put_line.Tie as tie
 
 returns : tie.Need-returns
 returns c =
-    let t = c.before.before in
-    let h2 = t.before.before.before.before in
-    let h1 = h2.before.before.before.before in
     let a = c.args in
     rw (c.put_text.ensures, c.put_hex-2.ensures, c.put_hex.ensures) (line_stored a.kind a.text.now a.out.now a.to)
 
 same_length : tie.Need-shape_of-out
 same_length c =
-    let h1 = c.before.before.before.before.before.before.before.before.before.before in
     let a = c.args in
     ap length (returns c) ∙ length-sets a.out.now a.to (line_of (record { kind = a.kind; text = a.text.now }))
 

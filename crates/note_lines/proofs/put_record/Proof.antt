@@ -18,7 +18,6 @@ note c = sym c.of_note.ensures ∙ c.if-not-of_note.false
 
 room : (c : tie.Else-not-of_note) → c.args.to + (5 + 2 * length c.args.text.now) ≤ length c.args.out.now
 room c =
-    let s = c.before.before.before.before in
     let h = rw (note c) at c.requires in
     omega (arith, h, length_line (record { kind = c.args.kind; text = c.args.text.now }))
 

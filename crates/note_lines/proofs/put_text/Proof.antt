@@ -20,14 +20,11 @@ kept l = let a = l.args in ap length l.loop-i.invariant.1 ∙ length-sets a.out.
 
 loop-again : tie.Need-loop-i-preserved invariant-loop decreases-loop
 loop-again c =
-    let p = c.before.before in
-    let l = p.before.before.before.before in
     let a = c.args in
     (search rules, c.put_hex.ensures ∙ rw c.loop-i.invariant.1 (text_next a.text.now a.out.now a.to c.loop-i.i c.loop-i-test.true))
 
 returns : tie.Need-returns invariant-loop decreases-loop
 returns c =
-    let l = c.before in
     let a = c.args in
     c.loop-i.invariant.1 ∙ ap (λ t. sets a.out.now a.to (hex_text t)) (take_all c.loop-i.i a.text.now c.loop-i-test.false)
 

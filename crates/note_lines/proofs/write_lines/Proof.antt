@@ -62,7 +62,6 @@ line_is : (c : tie.After-get_u16-kind invariant-loop decreases-loop)
     (take (c.loop-at.at + (2 + c.get_u16.result) - (c.loop-at.at + 4)) (drop (c.loop-at.at + 4) (bytes_of c.before.before.before)))
     ≡ line_here (left_of c.before.before)
 line_is c =
-    let i = c.before.before in
     let w = c.loop-at.invariant.1 in
     ap₂ line_if (c.get_u16-kind.ensures ∙ kind_there w c.loop-at-test.true) (rw (length_is c) (text_there w c.loop-at-test.true))
 

@@ -21,7 +21,6 @@ returns c =
 
 returns-2 : tie.Need-returns
 returns-2 c =
-    let s = c.before.before in
     let e = opened_made c.args.in_rate c.args.out_rate c.requires in
     let m = c.new-made.ensures.0 in
     let t = c.in-Made.is in

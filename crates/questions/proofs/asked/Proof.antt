@@ -29,7 +29,6 @@ pub asked_spec : {M : Type 1} → statement M
 asked_spec = tie.close (tie.spec
     (λ c κs. search rules)
     (λ c κs.
-    let s = c.before.before.before.before in
     (c.requires, suits_bounded _ _ _ (sym c.stage_suits.ensures ∙ c.if-stage_suits.true)))
     (λ c. passes _ _ _ _ _ c.if-walk.true (sym c.stage_suits.ensures ∙ c.if-stage_suits.true) c.onward.ensures)
     (λ c. stops _ _ _ _ c.if-walk.true (sym c.stage_suits.ensures ∙ c.if-stage_suits.false))

@@ -34,12 +34,8 @@ pub onward_spec : {M : Type 1} → statement M
 onward_spec = tie.close (tie.spec
     (λ c κs. search rules) (λ c κs. search rules) (λ c κs. search rules)
     (λ c.
-    let d = c.before.before in
-    let s = d.before.before.before in
     record { fits = omega (arith, fits c.args.walk c.args.s c.args.question 0 _ _ _ c.format_after-format.ensures c.stage_due-d.ensures c.frame_bytes.ensures c.requires.0.0 c.requires.0.1 c.requires.1) })
     (λ c κs. search rules) (λ c κs. search rules)
     (λ c.
-    let d = c.before.before.before.before in
-    let s = d.before.before.before in
     walk_is c.args.walk c.args.s c.args.question c.args.shorter _ _ _ c.format_after-format.ensures c.stage_due-d.ensures c.frame_bytes.ensures
     _ _ c.larger_of.ensures c.first_short.ensures))

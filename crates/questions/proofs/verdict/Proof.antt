@@ -31,7 +31,7 @@ module _ (own format : PcmFormat) (size : ℕ) (w : Walk) where
     unfolding verdict_from
     placed e z = rw (h, e, eq-eqb w.short 0 z)
 
-sized_here : (c : tie.After-same_format) → let s = c.before.before.before in sized_from c.args.own c.args.size c.args.walk ≡ Accepted
+sized_here : (c : tie.After-same_format) → sized_from c.args.own c.args.size c.args.walk ≡ Accepted
 sized_here c = sym c.sized-asked.ensures ∙ c.in_default.is
 
 pub verdict_spec : {M : Type 1} → statement M

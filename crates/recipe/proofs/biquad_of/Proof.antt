@@ -13,11 +13,6 @@ use Rattle.recipe.proofs.biquad_of.Tie as tie
 returns : tie.Need-returns
 unfolding record_of
 returns c =
-    let c5 = c.before in
-    let c4 = c5.before in
-    let c3 = c4.before in
-    let c2 = c3.before in
-    let c1 = c2.before in
     let left = c.args.left.now in
     let field : (k : ℕ) → k < 6 → word_at 4 (4 + 4 * k) left ≡ get_or (words 6 (drop 4 left)) k 0 = λ k h. sym (word_number 6 k 4 left h) in
     rw (

@@ -6,12 +6,6 @@ use Rattle.recipe.proofs.write_biquad.Tie as tie
 
 returns : tie.Need-returns
 returns c =
-    let c6 = c.before.before in
-    let c5 = c6.before.before.before.before in
-    let c4 = c5.before.before.before.before in
-    let c3 = c4.before.before.before.before in
-    let c2 = c3.before.before.before.before in
-    let c1 = c2.before.before.before.before in
     c.put_u32-6.ensures ∙ rw (c.put_u32-5.ensures, c.put_u32-4.ensures, c.put_u32-3.ensures, c.put_u32-2.ensures, c.put_u32.ensures)
 
 pub write_biquad_spec : {M : Type 1} → statement M

@@ -11,16 +11,12 @@ use Rattle.resample.proofs.between.Tie as tie
 
 returns : tie.Need-returns-then-i-width
 returns c =
-    let g = c.before.before in
-    let s = g.before.before in
     let a = c.args in
     answered w16 c.interpolate.type_inv c.interpolate.ensures
     ∙ ap₂ (λ (x y : ℤ). interpolated x y a.f) (read_back c.ranges.last ∙ sym (earlier_first a.input.now a.last a.i a.width c.if-i-width.true)) (answered w16 c.get_i16-b.type_inv c.get_i16-b.ensures)
 
 returns-2 : tie.Need-returns
 returns-2 c =
-    let h = c.before in
-    let g = h.before.before in
     let a = c.args in
     answered w16 c.interpolate-2.type_inv c.interpolate-2.ensures
     ∙ ap₂ (λ (x y : ℤ). interpolated x y a.f) (answered w16 c.get_i16.type_inv c.get_i16.ensures ∙ sym (earlier_inside a.input.now a.last a.i a.width c.if-i-width.false)) (answered w16 c.get_i16-b.type_inv c.get_i16-b.ensures)

@@ -25,7 +25,6 @@ use Rattle.resample.proofs.process.Tie as tie
 
 copy-front-requires : tie.Need-copy_front-requires
 copy-front-requires c κs =
-    let s = c.before.before.before.before.before in
     let a = c.args in
     let xs = frames_of a.channels a.input.now in
     let r : length a.input.now / (a.channels * 2) * (a.channels * 2) ≤ length a.out.now =
@@ -34,10 +33,6 @@ copy-front-requires c κs =
 
 returns : tie.Need-returns-then-resampler
 returns c =
-    let w = c.before.before in
-    let t = w.before.before in
-    let known = t.before.before.before in
-    let s = known.before in
     let a = c.args in
     let l = a.input.now in
     let xs = frames_of a.channels l in
@@ -50,15 +45,14 @@ returns c =
     }
 
 -- unequal rates: the block's own frames and state
-unequal : (c : tie.Else-resampler) → let s = c.before.before.before.before in Ready c.args.channels c.args.resampler.in_r c.args.resampler.out_r
+unequal : (c : tie.Else-resampler) → Ready c.args.channels c.args.resampler.in_r c.args.resampler.out_r
     (carried_outputs c.args.resampler.in_r c.args.resampler.out_r c.args.s (frames_of c.args.channels c.args.input.now)) c.args.input.now c.args.out.now
 unequal c =
-    let s = c.before.before.before.before in
     let a = c.args in
     rw (resampled_unequal a.resampler a.s (frames_of a.channels a.input.now) (ne_eqb _ _ c.if-resampler.false)) at c.requires
 
 two : (c : tie.Else-channels-eq1) → c.args.channels ≡ 2
-two c = let s = c.before.before.before.before.before in omega (arith, c.requires.channels.0, c.requires.channels.1, c.if-channels-eq1.false)
+two c = omega (arith, c.requires.channels.0, c.requires.channels.1, c.if-channels-eq1.false)
 
 -- so what the block function of ch channels promises is what the stage does
 done : (r : LinearResampler) (s : ResamplerState) {channels ch : ℕ} (input : List ℕ) {before after : List ℕ} {d : Resampled} → eqb r.in_rate r.out_rate ≡ false → channels ≡ ch
@@ -70,8 +64,6 @@ pub process_spec : {M : Type 1} → statement M
 process_spec = tie.close (tie.spec copy-front-requires (λ c. search rules) (λ c. search rules) (λ c. search rules) returns
     (λ c κs. rw c.if-channels-eq1.true at (unequal c.before.before)) (λ c. search rules)
     (λ c.
-    let m = c.before.before in
-    let t = m.before.before in
     let a = c.args in
     done a.resampler a.s a.input.now (ne_eqb _ _ c.if-resampler.false) c.if-channels-eq1.true c.resample_mono.ensures)
     (λ c κs. rw (two c.before) at (unequal c.before.before)) (λ c. search rules)

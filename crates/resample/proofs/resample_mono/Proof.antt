@@ -22,7 +22,7 @@ abbrev last_of : tie.Start → ℤ
 last_of s = to_z w16 (of_z w16 (get_or s.args.s.last 0 (pos 0)))
 
 same : (c : tie.After-run_mono-arg-2-1) → let s = c.before.before.before.before.before.before in (n : ℕ) → n < 1 → get_or c.args.s.last n (pos 0) ≡ get_or (last_of s ∷ []) n (pos 0)
-same c = let s = c.before.before.before.before.before.before in mono_same c.args.s.last (record { sfits = c.run_mono-arg-2-1.given })
+same c = mono_same c.args.s.last (record { sfits = c.run_mono-arg-2-1.given })
 
 run-mono-requires : tie.Need-run_mono-d-requires
 run-mono-requires c κs =

@@ -23,7 +23,6 @@ last_of s = to_z w16 (of_z w16 (get_or s.args.s.last 0 (pos 0))) ∷ to_z w16 (o
 
 same : (c : tie.After-run_stereo-arg-3-1) → let s = c.before.before.before.before.before.before.before in (n : ℕ) → n < 2 → get_or c.args.s.last n (pos 0) ≡ get_or (last_of s) n (pos 0)
 same c =
-    let s = c.before.before.before.before.before.before.before in
     stereo_same c.args.s.last (record { sfits = c.run_stereo-arg-2-1.given }) (record { sfits = c.run_stereo-arg-3-1.given })
 
 run-stereo-requires : tie.Need-run_stereo-d-requires

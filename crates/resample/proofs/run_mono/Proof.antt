@@ -60,7 +60,6 @@ loop-again c =
     ∙ ap (λ (f : Frame). f ∷ drop (suc l.k) fs) (mono_frame (last_of s) a.input.now r.whole a.out_r (a.num + l.k * a.in_r) l.at l.invariant.place c.loop-at-test.true))
     ∙ bytes_mono y (drop (suc l.k) fs) in
     let t = due_turn b in
-    let w = c.before.before.before in
     progress_next 1 _ _ _ _ _ _ r l.invariant c.loop-at-test.true
     (at_sum a.out_r (a.num + l.k * a.in_r) a.in_r l.at step.result c.advance-at.result l.invariant.place step.ensures c.advance-at.ensures)
     (writing_put (writing_as l.invariant.bytes e) c.put_i16.ensures (answered w16 c.between-y.type_inv c.between-y.ensures) (omega (arith, t.more)) r.room)

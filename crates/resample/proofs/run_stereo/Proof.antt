@@ -114,7 +114,7 @@ run_stereo_spec = tie.close (tie.spec invariant-loop decreases-loop
     (λ c κs. (omega arith, c.loop-at.invariant.place.parts.small))
     (λ c. omega arith)
     (λ c. omega arith)
-    (λ c κs. let b = c.before in (omega (arith, c.loop-at-test.true), c.loop-at.invariant.place.parts.small))
+    (λ c κs. (omega (arith, c.loop-at-test.true), c.loop-at.invariant.place.parts.small))
     (λ c. let t = due_turn c.before.before.before in record { fits = omega (arith, t.more, t.fits, t.small) })
     (λ c κs. let t = due_turn c.before.before.before in omega (arith, t.more, t.fits))
     (λ c. let t = due_turn c.before.before.before.before.before.before.before in record { fits = omega (arith, t.more, t.fits, t.small) })

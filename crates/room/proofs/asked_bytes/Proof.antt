@@ -12,8 +12,6 @@ pub asked_bytes_spec : {M : Type 1} → statement M
 asked_bytes_spec = tie.close (tie.spec
     (λ c κs. search rules) (λ c κs. search rules)
     (λ c.
-    let f = c.before in
-    let a = f.before in
     let h : c.asked_frames.result ≤ 8193 = omega (arith, c.asked_frames.ensures, asked_most c.args.frames) in
     let k : c.frame_bytes.result ≤ 4 = omega (arith, c.frame_bytes.ensures, c.requires) in
     record { fits = omega (arith, mul-le-mul h k) })

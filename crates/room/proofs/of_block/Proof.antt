@@ -10,8 +10,6 @@ pub of_block_spec : {M : Type 1} → statement M
 of_block_spec = tie.close (tie.spec
     (λ c κs. search rules) (λ c. search rules) (λ c. search rules) (λ c κs. search rules)
     (λ c.
-    let v = c.before in
     ap (λ (x : Verdict). room_answer x c.args.walk) (sym c.in-Refused.is ∙ c.sized-asked.ensures))
     (λ c.
-    let v = c.before.before in
     c.known.ensures ∙ ap (λ (x : Verdict). room_answer x c.args.walk) (sym c.in-Accepted.is ∙ c.sized-asked.ensures)))

@@ -10,7 +10,6 @@ pub frames_wanted_spec : {M : Type 1} → statement M
 unfolding frames_wanted
 frames_wanted_spec = tie.close (tie.spec (λ c. search rules) (λ c. search rules) (λ c. search rules) (λ c. search rules)
     (λ c κs.
-    let s = c.before in
     let r : Rates c.in-Resample.r = rw c.in-Resample.is at c.requires.1 in
     (r.input_rate.0, product_fits c.requires.0 r.output_rate.1 r.input_rate.1))
     (λ c. search rules) (λ c. search rules)

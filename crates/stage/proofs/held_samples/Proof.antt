@@ -33,7 +33,6 @@ module _ (l : List ℤ) (two : length l ≡ 2) (f : SFits w16 (get_or l 0 (pos 0
 
 returns : tie.Need-returns
 returns c =
-    let s = c.before.before.before in
     let two : length c.args.state.last ≡ 2 = search rules in
     let f : SFits w16 (get_or c.args.state.last 0 (pos 0)) = record { sfits = c.left-1.given } in
     let g : SFits w16 (get_or c.args.state.last 1 (pos 0)) = record { sfits = c.right-1.given } in

@@ -19,14 +19,10 @@ fits h k = lt_of_le_of_lt (mul-le-mul h k) (lit< tt)
 
 returns : tie.Need-returns-then-part_suits-2
 returns c =
-    let second = c.before in
-    let first = second.before.before in
     rw (← c.part_suits.ensures, c.if-part_suits.true, ← c.part_suits-then-part_suits.ensures, c.if-part_suits-2.true)
 
 returns-2 : tie.Need-returns-then-part_suits
 returns-2 c =
-    let second = c.before in
-    let first = second.before.before in
     rw (← c.part_suits.ensures, c.if-part_suits.true, ← c.part_suits-then-part_suits.ensures, c.if-part_suits-2.false)
 
 returns-3 : tie.Need-returns
@@ -35,10 +31,7 @@ returns-3 c = rw (← c.part_suits.ensures, c.if-part_suits.false)
 pub parts_suit_spec : {M : Type 1} → statement M
 parts_suit_spec = tie.close (tie.spec (λ c κs. search rules) (λ c κs. search rules)
     (λ c.
-    let first = c.before.before.before in
-    let s = first.before in
     record { fits = fits (small c.args.in_r c.args.input _ c.if-part_suits.true c.part_suits.ensures c.requires.0) c.requires.1 })
     (λ c.
-    let s = c.before.before.before.before in
     record { fits = fits (small c.args.out_r c.args.output _ c.if-part_suits-2.true c.part_suits-then-part_suits.ensures c.requires.1) c.requires.0 })
     returns returns-2 returns-3)

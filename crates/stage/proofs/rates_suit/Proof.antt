@@ -19,15 +19,11 @@ within rate t h e = leb-true rate 384000 (both (ltb 0 rate) (leb rate 384000) (s
 returns : tie.Need-returns-then-rate_allowed-2
 unfolding rates_suit rates_allowed
 returns c =
-    let second = c.before.before.before.before in
-    let first = second.before.before in
     rw (← c.rate_allowed.ensures, c.if-rate_allowed.true, ← c.rate_allowed-then-rate_allowed.ensures, c.if-rate_allowed-2.true) c.parts_suit.ensures
 
 returns-2 : tie.Need-returns-then-rate_allowed
 unfolding rates_suit rates_allowed
 returns-2 c =
-    let second = c.before in
-    let first = second.before.before in
     rw (← c.rate_allowed.ensures, c.if-rate_allowed.true, ← c.rate_allowed-then-rate_allowed.ensures, c.if-rate_allowed-2.false)
 
 returns-3 : tie.Need-returns
@@ -37,7 +33,5 @@ returns-3 c = rw (← c.rate_allowed.ensures, c.if-rate_allowed.false)
 pub rates_suit_spec : {M : Type 1} → statement M
 rates_suit_spec = tie.close (tie.spec (λ c κs. search rules) (λ c κs. search rules) (λ c. search rules) (λ c. search rules)
     (λ c κs.
-    let second = c.before.before.before in
-    let first = second.before.before in
     (within _ _ c.if-rate_allowed.true c.rate_allowed.ensures, within _ _ c.if-rate_allowed-2.true c.rate_allowed-then-rate_allowed.ensures))
     returns returns-2 returns-3)

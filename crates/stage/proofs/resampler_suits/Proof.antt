@@ -7,9 +7,7 @@ use Rattle.stage.proofs.resampler_suits.Tie as tie
 pub resampler_suits_spec : {M : Type 1} → statement M
 resampler_suits_spec = tie.close (tie.spec (λ c κs. search rules)
     (λ c.
-    let asked = c.before.before.before in
     rw (← c.rates_suit.ensures, c.if-rates_suit.true, eq-eqb _ _ c.if-rate-r.true))
     (λ c.
-    let asked = c.before.before in
     rw (← c.rates_suit.ensures, c.if-rates_suit.true, ne_eqb _ _ c.if-rate-r.false))
     (λ c. rw (← c.rates_suit.ensures, c.if-rates_suit.false)))

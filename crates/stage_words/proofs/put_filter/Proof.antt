@@ -7,14 +7,10 @@ use Rattle.stage_words.proofs.put_filter.Tie as tie
 
 returns : tie.Need-returns
 unfolding filter_words
-returns c =
-    let c4 = c.before.before in
-    let c3 = c4.before.before.before.before in
-    let c2 = c3.before.before.before.before in
-    let c1 = c2.before.before.before.before in (
-      c.put_pair-4.ensures.0 ∙ rw (c.put_pair-3.ensures.0, c.put_pair-2.ensures.0, c.put_pair.ensures.0),
-      record { x1 = c.put_pair.ensures.1; x2 = c.put_pair-2.ensures.1; y1 = c.put_pair-3.ensures.1; y2 = c.put_pair-4.ensures.1 },
-    )
+returns c = (
+  c.put_pair-4.ensures.0 ∙ rw (c.put_pair-3.ensures.0, c.put_pair-2.ensures.0, c.put_pair.ensures.0),
+  record { x1 = c.put_pair.ensures.1; x2 = c.put_pair-2.ensures.1; y1 = c.put_pair-3.ensures.1; y2 = c.put_pair-4.ensures.1 },
+)
 
 pub put_filter_spec : {M : Type 1} → statement M
 put_filter_spec = tie.close (tie.spec

@@ -8,8 +8,6 @@ use Rattle.stage_words.proofs.put_memory.Tie as tie
 returns : tie.Need-returns
 unfolding memory_words filter_words
 returns c =
-    let s = c.before.before in
-    let f = s.before.before.before.before in
     (c.put_state.ensures.0 ∙ rw c.put_filter.ensures.0, c.put_filter.ensures.1, c.put_state.ensures.1)
 
 pub put_memory_spec : {M : Type 1} → statement M

@@ -14,8 +14,6 @@ use Rattle.stage_words.proofs.put_stage.Tie as tie
 returns : tie.Need-returns
 unfolding words_of_stage
 returns c =
-    let s = c.before.before in
-    let f = s.before.before.before.before in
     let a = c.args in
     let w = a.w.now in
     let k = setting_words a.s.kind in

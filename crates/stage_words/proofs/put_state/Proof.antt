@@ -35,7 +35,6 @@ returns : tie.Need-returns
 unfolding state_words
 returns c =
     let b = c.before.before in
-    let s = b.before.before.before.before.before.before in
     let two : length c.args.s.last ≡ 2 = search rules in
     (rw (left_bits b.before, right_bits b, c.flag.ensures), record { places = two; left = left_fits b.before.before; right = right_fits b.before.before })
 

@@ -12,7 +12,6 @@ use Rattle.stage_words.proofs.sample_bits.Tie as tie
 
 returns : tie.Need-returns
 returns c =
-    let s = c.before in
     let e : to_z w32 (of_z w32 (to_z w16 (of_z w16 c.args.x))) ≡ c.args.x = settled w32 (read_back c.ranges.x) (sfits_widen tt c.ranges.x) in
     ap (λ (n : ℕ). n % 65536) (c.bits.ensures ∙ ap (of_z w32) e) ∙ low_half c.args.x c.ranges.x
 

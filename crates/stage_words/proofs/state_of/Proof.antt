@@ -10,8 +10,6 @@ use Rattle.stage_words.proofs.state_of.Tie as tie
 returns : tie.Need-returns
 unfolding state_of
 returns c =
-    let b = c.before.before in
-    let a = b.before in
     rw (answered w16 c.sample_of.type_inv c.sample_of.ensures, answered w16 c.sample_of-2.type_inv c.sample_of-2.ensures)
 
 pub state_of_spec : {M : Type 1} → statement M

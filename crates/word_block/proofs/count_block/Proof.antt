@@ -10,11 +10,6 @@ use Rattle.word_block.proofs.count_block.Tie as tie
 
 returns : tie.Need-returns
 returns c =
-    let p = c.before.before in
-    let e = p.before.before in
-    let d = e.before in
-    let u = d.before.before in
-    let f = u.before in
     let a = c.args in
     c.put_counters.ensures
     ∙ ap₂ (λ (x y : ℕ). sets a.words.now 3 (counter_words x y)) (c.count_up-blocks.ensures ∙ ap counted_up c.counter_at.ensures) (c.count_empty-empty_blocks.ensures ∙ ap (counted_if a.len) c.counter_at-2.ensures)

@@ -28,6 +28,6 @@ legal_head_spec = tie.close (tie.spec
     (λ c κs. stands_long _ (sym c.stand.ensures ∙ c.if-stand.true))
     (λ c κs. stands_long _ (sym c.stand.ensures ∙ c.if-stand.true))
     (λ c κs. search rules)
-    (λ c. let n = c.before in let f = n.before in let t = f.before in
+    (λ c.
     c.head_legal.ensures ∙ stood _ _ _ (sym c.stand.ensures ∙ c.if-stand.true) c.format_of-own.ensures c.count_of.ensures)
     (λ c. not_stood _ (sym c.stand.ensures ∙ c.if-stand.false)))

@@ -78,11 +78,6 @@ loop-holds c =
 -- ---- one stage
 loop-again : tie.Need-loop-i-preserved invariant-loop decreases-loop
 loop-again c =
-    let p = c.before.before.before.before.before in
-    let t = p.before.before.before.before.before.before.before in
-    let m = t.before.before.before in
-    let k = m.before.before in
-    let il = k.before.before in
     let v = c.loop-i.invariant in
     let q = c.put_held_at.ensures in
     let w = c.loop-i.words in
@@ -133,21 +128,13 @@ play_spec = tie.close (tie.spec
     (λ c κs. long c.before)
     (λ c κs. let k = c.before.before.before in let a = (s k).args in copy_fits a.words.now a.sound.now a.a.now a.b.now _ (takes k) c.count_of-count.ensures)
     loop-holds
-    (λ c κs. let l = c.before.before in (omega (arith, c.loop-i.invariant.plays.few, c.loop-i-test.true), c.loop-i.invariant.long))
-    (λ c κs. let l = c.before.before.before.before in (omega (arith, c.loop-i.invariant.plays.few, c.loop-i-test.true), c.loop-i.invariant.long))
+    (λ c κs. (omega (arith, c.loop-i.invariant.plays.few, c.loop-i-test.true), c.loop-i.invariant.long))
+    (λ c κs. (omega (arith, c.loop-i.invariant.plays.few, c.loop-i-test.true), c.loop-i.invariant.long))
     (λ c κs.
-    let m = c.before.before in
-    let k = m.before.before in
-    let il = k.before.before in
     asks_at _ _ _ _ c.kind_at-kind.ensures.0 c.memory_at-held.ensures.0 _ _ _ _ _ _ _ _ _ _ c.loop-i.invariant.plays c.loop-i-test.true)
     (λ c κs.
-    let il = c.before.before.before.before.before.before.before.before.before.before.before.before.before in
     (omega (arith, c.loop-i.invariant.plays.few, c.loop-i-test.true), c.loop-i.invariant.long))
     (λ c.
-    let t = c.before.before.before.before.before.before.before.before.before.before in
-    let m = t.before.before.before in
-    let k = m.before.before in
-    let il = k.before.before in
     record {
       fits = omega (
         arith,
@@ -156,11 +143,8 @@ play_spec = tie.close (tie.spec
     })
     (λ c κs. search rules)
     (λ c κs.
-    let t = c.before.before.before.before.before.before.before.before.before.before.before in
     c.loop-i-test.true)
     (λ c.
-    let t = c.before.before.before.before.before.before.before.before.before.before.before.before in
-    let il = t.before.before.before.before.before.before.before in
     next_less c.loop-i.i _ c.turn-t.result.len _ c.loop-i-test.true c.next_stage-i.ensures)
     loop-again
     (λ c κs. c.loop-i.invariant.long)

@@ -18,9 +18,6 @@ decreases-loop words count question shorter walk₀ i₀ walk i = count - i
 
 loop-again : tie.Need-loop-i-preserved invariant-loop decreases-loop
 loop-again c =
-    let m = c.before in
-    let k = m.before in
-    let l = k.before.before in
     let a = c.args in
     let v = c.loop-i.invariant in
     asks_next _ _ _ _ _ _ _ _ v c.loop-i-test.true _

@@ -17,9 +17,6 @@ use Rattle.word_finish.proofs.reset.Tie as tie
 
 put-sound-requires : tie.Need-put_sound-requires
 put-sound-requires c κs =
-    let r = c.before in
-    let o = r.before in
-    let t = o.before.before in
     let w = c.args.words.now in
     let h : stands w ≡ true = sym c.stand.ensures ∙ c.if-stand.true in
     let q : c.reset-after.result ≡ reset_call (chain_of_words w) = c.reset-after.ensures ∙ ap reset_call c.chain_of-own.ensures.0 in
@@ -27,10 +24,6 @@ put-sound-requires c κs =
 
 returns : tie.Need-returns-then-stand
 returns c =
-    let p = c.before.before in
-    let r = p.before.before in
-    let o = r.before in
-    let t = o.before.before in
     let w = c.args.words.now in
     let h : stands w ≡ true = sym c.stand.ensures ∙ c.if-stand.true in
     let q : c.reset-after.result ≡ reset_call (chain_of_words w) = c.reset-after.ensures ∙ ap reset_call c.chain_of-own.ensures.0 in

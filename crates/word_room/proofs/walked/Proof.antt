@@ -19,5 +19,5 @@ walked_spec = tie.close (tie.spec
     (λ c κs. stands_long _ (head_stands _ c.requires))
     (λ c κs. (head_parts c.format_of-own.result c.count_of-count.result (head c)).channels)
     (λ c κs. (stands_long _ (head_stands _ c.requires), asks_begin _ _ _ _ _ _ _ _ (head c.before) (eight _) c.begun-start.ensures))
-    (λ c. let b = c.before in let n = b.before in let f = n.before in
+    (λ c.
     found_at _ c.requires _ _ c.count_of-count.ensures c.format_of-own.ensures _ _ _ _ c.begun-start.ensures c.walked.ensures.is))

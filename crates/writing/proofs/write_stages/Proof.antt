@@ -44,14 +44,12 @@ next_is c =
 -- they have room
 kept : (l : tie.At-loop-i invariant-loop decreases-loop) → length l.loop-i.out ≡ length l.args.out.now
 kept l =
-    let s = l.before.before in
     let v = l.loop-i.invariant in
     ap length v.2 ∙ length_written (recipe_of (take l.loop-i.i l.args.stages)) l.args.out.now (omega (arith, recipe_within l.args.stages l.loop-i.i l.args.count v.0, l.requires.1))
 
 room : (c : tie.After-record_of-next invariant-loop decreases-loop) → c.loop-i.at + length (record_bytes c.record_of-next.result) ≤ length c.loop-i.out
 room c =
     let l = c.before.before.before in
-    let s = l.before.before in
     let w = recipe_within c.args.stages (c.loop-i.i + 1) c.args.count (omega arith) in
     let n = ap length (next_is c) ∙ length-append (recipe_of (take c.loop-i.i c.args.stages)) (record_bytes c.record_of-next.result) in
     let k = kept l in
@@ -61,7 +59,6 @@ room c =
 
 write-requires : tie.Need-write-requires invariant-loop decreases-loop
 write-requires c κs =
-    let l = c.before.before.before.before in
     let r = room c.before in
     rw (part_to_end c.loop-i.out c.loop-i.at, length-drop c.loop-i.at c.loop-i.out) (omega arith)
 
@@ -69,8 +66,6 @@ loop-again : tie.Need-loop-i-preserved invariant-loop decreases-loop
 loop-again c =
     let w = c.before.before.before in
     let r = w.before.before in
-    let l = r.before.before.before in
-    let s = l.before.before in
     let a = recipe_of (take c.loop-i.i c.args.stages) in (
       search rules,
       ap₂ ◌+◌ c.loop-i.invariant.1 c.size-at.ensures ∙ sym (ap length (next_is r) ∙ length-append a (record_bytes c.record_of-next.result)),

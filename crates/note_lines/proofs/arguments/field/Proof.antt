@@ -22,21 +22,18 @@ left_is : (i : tie.In-loop-i invariant-loop decreases-loop)
     → field_of i.args.most i.args.text.now ≡ field_after i.args.most i.loop-i.value
     (get_or i.args.text.now i.loop-i.i 0 ∷ drop (i.loop-i.i + 1) i.args.text.now)
 left_is i =
-    let l = i.before in
     let a = i.args in
     i.loop-i.invariant.2 ∙ ap (field_after a.most i.loop-i.value) (next_byte a.text.now i.loop-i.i i.loop-i-test.true)
 
 returns : tie.Need-returns-then-b-lt48 invariant-loop decreases-loop
 returns c =
     let i = c.before.before in
-    let l = i.before in
     let a = c.args in
     field_low a.most c.loop-i.value _ (drop (c.loop-i.i + 1) a.text.now) c.if-b-lt48.true ∙ sym (left_is i)
 
 returns-2 : tie.Need-returns-then-b-gt57 invariant-loop decreases-loop
 returns-2 c =
     let i = c.before.before.before in
-    let l = i.before in
     let a = c.args in
     field_high a.most c.loop-i.value _ (drop (c.loop-i.i + 1) a.text.now) c.if-b-lt48.false c.if-b-gt57.true ∙ sym (left_is i)
 
@@ -44,7 +41,6 @@ returns-3 : tie.Need-returns-then-next-most invariant-loop decreases-loop
 returns-3 c =
     let e = c.before in
     let i = e.before.before.before in
-    let l = i.before in
     let a = c.args in
     field_over a.most c.loop-i.value _ (drop (c.loop-i.i + 1) a.text.now) c.if-b-lt48.false c.if-b-gt57.false c.if-next-most.true ∙ sym (left_is i)
 
@@ -52,13 +48,11 @@ loop-again : tie.Need-loop-i-preserved invariant-loop decreases-loop
 loop-again c =
     let e = c.before in
     let i = e.before.before.before in
-    let l = i.before in
     let a = c.args in
     (search rules, c.if-next-most.false, left_is i ∙ field_next a.most c.loop-i.value _ (drop (c.loop-i.i + 1) a.text.now) c.if-b-lt48.false c.if-b-gt57.false)
 
 returns-4 : tie.Need-returns invariant-loop decreases-loop
 returns-4 c =
-    let l = c.before in
     let a = c.args in
     field_end a.most c.loop-i.value c.loop-i.invariant.1 ∙ sym (c.loop-i.invariant.2 ∙ ap (field_after a.most c.loop-i.value) (drop_of_length-le a.text.now c.loop-i-test.false))
 

@@ -30,7 +30,6 @@ format_allowed_lem c = sym c.allowed.ensures ∙ c.if-not-allowed.false
 -- the answer to the bytes that are left
 read_is : (c : tie.After-read-answer invariant-loop decreases-loop) → c.read-answer.result ≡ read_record (drop c.loop-at.at c.args.recipe.now)
 read_is c =
-    let l = c.before.before.before in
     let bytes = c.args.recipe.now in
     c.read-answer.ensures ∙ ap read_record (take_all (length bytes - c.loop-at.at) (drop c.loop-at.at bytes) (rw length-drop (omega arith)))
 
@@ -65,11 +64,10 @@ taken c = sym c.stage_of-made.ensures ∙ c.in-Stage-made.is
 
 returns : tie.Need-returns-then-not-allowed invariant-loop decreases-loop
 returns c =
-    let s = c.before.before.before.before in
     c.unopened.ensures ∙ sym (call_format c.args.format c.args.recipe.now (sym c.allowed.ensures ∙ c.if-not-allowed.true))
 
 loop-holds : tie.Need-loop-at-init invariant-loop decreases-loop
-loop-holds c = let s = c.before.before.before.before in rw c.no_stages-stages.ensures (opens_start c.args.format c.args.recipe.now (format_allowed_lem c.before))
+loop-holds c = rw c.no_stages-stages.ensures (opens_start c.args.format c.args.recipe.now (format_allowed_lem c.before))
 
 returns-2 : tie.Need-returns-in_default invariant-loop decreases-loop
 returns-2 c =

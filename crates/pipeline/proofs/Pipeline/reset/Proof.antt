@@ -39,7 +39,6 @@ loop-again c =
 returns-2 : tie.Need-returns invariant-loop decreases-loop
 unfolding reset_call cleared_front
 returns-2 c =
-    let l = c.before.before in
     let v = c.loop-cleared.invariant in
     let e : c.loop-cleared.cleared ≡ c.args.self.count = omega arith in
     rw (le-leb _ 8 v.1) (rw (v.2, e))

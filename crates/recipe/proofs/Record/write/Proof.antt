@@ -25,7 +25,6 @@ returns c =
     let f = c.before.before in
     let k = f.before.before.before.before in
     let z = k.before.before.before.before.before in
-    let s = z.before.before.before.before in
     let n : c.size.result - 2 ≡ 2 + 4 * length (fields_of c.args.self) = omega (arith, sized z.before) in
     c.write_fields.ensures ∙ rw (c.put_u16-2.ensures, c.kind.ensures, c.put_u16.ensures, n) (record_stored c.args.self c.args.out.now c.requires)
 

@@ -11,6 +11,6 @@ product f o h k = mul-le-mul (le_of_lt h) k
 
 pub past_spec : {M : Type 1} → statement M
 past_spec = tie.close (tie.spec (λ c. search rules)
-    (λ c. let s = c.before.before in record { fits = omega (arith, product c.args.self.frac c.args.out_r c.requires.0.0.small c.requires.0.1) })
-    (λ c. let s = c.before.before.before in record { fits = omega (arith, c.requires.0.0.rest, c.requires.0.1, product c.args.self.frac c.args.out_r c.requires.0.0.small c.requires.0.1) })
+    (λ c. record { fits = omega (arith, product c.args.self.frac c.args.out_r c.requires.0.0.small c.requires.0.1) })
+    (λ c. record { fits = omega (arith, c.requires.0.0.rest, c.requires.0.1, product c.args.self.frac c.args.out_r c.requires.0.0.small c.requires.0.1) })
     (λ c. search rules) (λ c. search rules) (λ c. search rules))
