@@ -1,14 +1,12 @@
 -- What a block call answers, document 01's number and values for each case, counters, halves and the output's part (pipeline.rs). Definitions only.
-use Rattle.std.specs.Prelude.{cond, List, [], ℕ, zero, suc, ◌+◌, ◌%◌, eqb, leb, ltb, length, take}
+use Rattle.pcm.specs.declared.Error.{Error}
+use Rattle.std.specs.Prelude.{cond, List, [], ℕ, zero, suc, ◌+◌, ◌%◌, eqb, leb, ltb, length, take, Ok, Err, Result}
 use Rattle.pcm.specs.declared.PcmFormat.{PcmFormat}
 use Rattle.answers.specs.declared.Half.{Half}
 use Rattle.answers.specs.declared.Half.TheVariants as half
 use Rattle.answers.specs.declared.Answer.{Answer}
 use Rattle.answers.specs.declared.Answer.TheVariants as answer
-use Rattle.pcm.specs.declared.Verdict.TheVariants.{Accepted, Refused}
 use Rattle.pcm.specs.Refusals.{refusal, Valued, valued}
-use Rattle.answers.specs.declared.Scratch.{Scratch}
-use Rattle.answers.specs.declared.Scratch.TheVariants as scratch
 use Rattle.answers.specs.declared.Told.{Told}
 use Rattle.pcm.specs.Frames.{written}
 
@@ -58,9 +56,9 @@ answer_told (answer.NothingYet clipped) = silent_told 0 0 2 clipped
 answer_told (answer.Refused e) = silent_told (refusal e).number (refusal e).needed 0 0
 
 -- ---- scratch_bytes: number and value
-abbrev pub scratch_told : Scratch → Valued
-scratch_told (scratch.Bytes n) = valued Accepted n
-scratch_told (scratch.Refused e) = valued (Refused e) 0
+abbrev pub scratch_told : (Result ℕ Error) → Valued
+scratch_told (Ok n) = valued (Ok tt) n
+scratch_told (Err e) = valued (Err e) 0
 
 -- a counter that grows where no bytes came out
 abbrev pub counted_if : ℕ → ℕ → ℕ

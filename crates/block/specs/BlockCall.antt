@@ -1,11 +1,10 @@
 -- The block call (document 01, pipeline.rs and 'The questions'; document 02, Q-2): from a chain and a call to all that is there afterwards. Definitions only.
-use Rattle.std.specs.Prelude.{Bool, true, cond, ◌&&◌, List, [], ◌∷◌, ◌++◌, ℕ, suc, ◌*◌, ◌/◌, ◌%◌, eqb, leb, length, drop}
+use Rattle.pcm.specs.declared.Error.{Error}
+use Rattle.std.specs.Prelude.{Bool, true, cond, ◌&&◌, List, [], ◌∷◌, ◌++◌, ℕ, suc, ◌*◌, ◌/◌, ◌%◌, eqb, leb, length, drop, Ok, Err, Result}
 use Rattle.pcm.specs.declared.PcmFormat.{PcmFormat}
 use Rattle.pcm.specs.declared.Error.TheVariants.{InvalidFormat, Unsupported, BufferTooSmall, InvalidGeometry, TooLong}
-use Rattle.pcm.specs.declared.Verdict.{Verdict}
-use Rattle.pcm.specs.declared.Verdict.TheVariants.{Accepted, Refused}
 use Rattle.pcm.specs.Formats.{format_allowed}
-use Rattle.pcm.specs.Refusals.{ask}
+use Rattle.pcm.specs.Refusals.{ask, Verdict}
 use Rattle.pcm.specs.Frames.{Frame, frames_of, bytes_of, written}
 use Rattle.stage.specs.declared.Stage.{Stage}
 use Rattle.stage.specs.Stages.{stage_out, format_after}
@@ -14,8 +13,6 @@ use Rattle.pipeline.specs.declared.Pipeline.{Pipeline}
 use Rattle.pipeline.specs.WritingBack.{stages_of}
 use Rattle.answers.specs.declared.Answer.{Answer}
 use Rattle.answers.specs.declared.Answer.TheVariants as answer
-use Rattle.answers.specs.declared.Scratch.{Scratch}
-use Rattle.answers.specs.declared.Scratch.TheVariants as scratch
 use Rattle.block.specs.Chain.{chain_out, chain_next, chain_clipped}
 use Rattle.pipeline.specs.Reset.{format_leaving}
 use Rattle.questions.specs.Walk.{whole_frames, same_format, larger}
@@ -35,15 +32,15 @@ legal c = leb c.count 8 && (format_allowed c.format && suited c.format (stages_o
 -- At each stage that will be reached, in chain order, does the shorter half hold the room wanted?
 -- else 3, with needed = twice the room of the first stage short
 unfoldable pub rooms_verdict : PcmFormat → List Stage → ℕ → ℕ → Verdict
-rooms_verdict f [] n shorter = Accepted
+rooms_verdict f [] n shorter = Ok tt
 rooms_verdict f (s ∷ rest) n shorter =
-    cond (eqb n 0) Accepted
+    cond (eqb n 0) (Ok tt)
     (ask (leb (room_wanted f s.kind n) shorter) (BufferTooSmall (2 * room_wanted f s.kind n))
     (rooms_verdict (format_after f s.kind) rest (frames_out s.kind s.memory n) shorter))
 
 -- for no stages, twice the block
 abbrev pub halves_verdict : PcmFormat → List Stage → ℕ → ℕ → Verdict
-halves_verdict f [] size shorter = ask (leb size shorter) (BufferTooSmall (2 * size)) Accepted
+halves_verdict f [] size shorter = ask (leb size shorter) (BufferTooSmall (2 * size)) (Ok tt)
 halves_verdict f (s ∷ rest) size shorter = rooms_verdict f (s ∷ rest) (size / (f.channels * 2)) shorter
 
 -- Is the chain legal? else 1. Whole frames, at least one? else 4. At most 8,192? else 10
@@ -113,8 +110,8 @@ shorter a b = shorter_of (length a) (length b)
 
 -- a refusal alters nothing
 abbrev pub concluded : Verdict → Pipeline → ℕ → List ℕ → Halves → Result
-concluded Accepted c timestamp bytes h = accepted c timestamp bytes h
-concluded (Refused e) c timestamp bytes h = record { chain = c; answer = answer.Refused e; a = h.a; b = h.b }
+concluded (Ok tt) c timestamp bytes h = accepted c timestamp bytes h
+concluded (Err e) c timestamp bytes h = record { chain = c; answer = answer.Refused e; a = h.a; b = h.b }
 
 -- the block call: from the chain, the block and the two halves to all that is there afterwards
 unfoldable pub block_call : Pipeline → PcmFormat → ℕ → List ℕ → List ℕ → List ℕ → Result
@@ -126,13 +123,13 @@ unfoldable pub largest_room : PcmFormat → List Stage → ℕ → ℕ
 largest_room f [] n = 0
 largest_room f (s ∷ rest) n = larger (room_wanted f s.kind n) (largest_room (format_after f s.kind) rest (frames_wanted s.kind n))
 
-abbrev pub scratch_answer : Verdict → ℕ → Scratch
-scratch_answer Accepted figure = scratch.Bytes figure
-scratch_answer (Refused e) figure = scratch.Refused e
+abbrev pub scratch_answer : Verdict → ℕ → Result ℕ Error
+scratch_answer (Ok tt) figure = Ok figure
+scratch_answer (Err e) figure = Err e
 
 -- twice the largest room on the way, the block itself included
 abbrev pub scratch_figure : Pipeline → ℕ → ℕ
 scratch_figure c size = 2 * larger size (largest_room c.format (stages_of c) (size / (c.format.channels * 2)))
 
-unfoldable pub scratch_bytes : Pipeline → ℕ → Scratch
-scratch_bytes c size = scratch_answer (size_asked c size Accepted) (scratch_figure c size)
+unfoldable pub scratch_bytes : Pipeline → ℕ → Result ℕ Error
+scratch_bytes c size = scratch_answer (size_asked c size (Ok tt)) (scratch_figure c size)

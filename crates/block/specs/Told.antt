@@ -1,9 +1,7 @@
 -- Number and values of a block call, by what its questions came to. Definitions only.
-use Rattle.std.specs.Prelude.{cond, List, ℕ, eqb, length}
+use Rattle.std.specs.Prelude.{cond, List, ℕ, eqb, length, Ok, Err}
 use Rattle.pcm.specs.declared.PcmFormat.{PcmFormat}
-use Rattle.pcm.specs.declared.Verdict.{Verdict}
-use Rattle.pcm.specs.declared.Verdict.TheVariants.{Accepted, Refused}
-use Rattle.pcm.specs.Refusals.{refusal}
+use Rattle.pcm.specs.Refusals.{refusal, Verdict}
 use Rattle.pipeline.specs.declared.Pipeline.{Pipeline}
 use Rattle.pipeline.specs.Reset.{format_leaving}
 use Rattle.pipeline.specs.WritingBack.{stages_of}
@@ -14,8 +12,8 @@ use Rattle.answers.specs.Answers.{last_half, sound_told, silent_told}
 
 -- by the verdict, where `len` bytes of this format come out and so many samples are held back
 abbrev pub told_of_block : Verdict → PcmFormat → ℕ → Half → ℕ → ℕ → Told
-told_of_block Accepted f timestamp side len clipped = cond (eqb len 0) (silent_told 0 0 2 clipped) (sound_told f timestamp side len clipped)
-told_of_block (Refused e) f timestamp side len clipped = silent_told (refusal e).number (refusal e).needed 0 0
+told_of_block (Ok tt) f timestamp side len clipped = cond (eqb len 0) (silent_told 0 0 2 clipped) (sound_told f timestamp side len clipped)
+told_of_block (Err e) f timestamp side len clipped = silent_told (refusal e).number (refusal e).needed 0 0
 
 abbrev pub block_told : Pipeline → PcmFormat → ℕ → List ℕ → List ℕ → List ℕ → Told
 block_told c format timestamp bytes a b =

@@ -3,7 +3,6 @@
 
 ghost use Rattle.std.specs.Prelude.{◌≡◌};
 ghost use Rattle.pcm.specs.Refusals.{valued};
-ghost use Rattle.pcm.specs.declared.Verdict.TheVariants.{Accepted};
 ghost use Rattle.pipeline.specs.WritingBack.{stages_of};
 ghost use Rattle.questions.specs.Walk.{walked, Walked};
 ghost use Rattle.answers.specs.Answers.{answer_told, scratch_told};
@@ -12,7 +11,7 @@ ghost use Rattle.block.specs.Told.{block_told};
 ghost use Rattle.block.specs.laws.Asking.{Asks};
 
 use answers::{Answer, Scratch};
-use pcm::{Error, PcmFormat, Verdict};
+use pcm::{Error, PcmFormat};
 use pipeline::Pipeline;
 use questions::{Question, Walk};
 use stage::Stage;
@@ -61,7 +60,7 @@ pub fn process(
         i += 1;
     }
     let verdict = questions::verdict(own, format, size, walk);
-    if let Verdict::Refused(e) = verdict {
+    if let Err(e) = verdict {
         return refused(chain, e);
     }
     answers::copy_unstaged(count, block, a);
@@ -110,7 +109,7 @@ pub fn walked(chain: Pipeline, question: Question, shorter: usize, start: Walk) 
 // a chain of no stages.
 pub fn scratch_bytes(chain: Pipeline, size: usize) -> Scratch
     ensures all { result ≡ scratch_bytes chain size }
-    ensures told { scratch_told result ≡ valued (size_asked chain size Accepted) (scratch_figure chain size) }
+    ensures told { scratch_told result ≡ valued (size_asked chain size (Ok tt)) (scratch_figure chain size) }
 {
     let own = chain.format;
     if !questions::head_legal(own, chain.count) {
@@ -120,7 +119,7 @@ pub fn scratch_bytes(chain: Pipeline, size: usize) -> Scratch
     let walk = walked(chain, Question::AnyState, size, start);
     let asked = questions::sized(own, size, walk);
     match asked {
-        Verdict::Refused(e) => Scratch::Refused(e),
-        Verdict::Accepted => Scratch::Bytes(2 * walk.largest),
+        Err(e) => Scratch::Refused(e),
+        Ok(()) => Scratch::Bytes(2 * walk.largest),
     }
 }

@@ -1,15 +1,12 @@
 -- Mono to stereo, stereo to mono, and a saturating mix (document 01, channels.rs). Definitions only.
-use Rattle.std.specs.Prelude.{◌&&◌, List, [], ◌∷◌, map, ℕ, ◌%◌, eqb, ℤ, ◌+ℤ◌, length}
-use Rattle.pcm.specs.declared.Verdict.{Verdict}
-use Rattle.pcm.specs.declared.Verdict.TheVariants.{Accepted, Refused}
+use Rattle.pcm.specs.declared.Error.{Error}
+use Rattle.std.specs.Prelude.{◌&&◌, List, [], ◌∷◌, map, ℕ, ◌%◌, eqb, ℤ, ◌+ℤ◌, length, Ok, Err, Result}
 use Rattle.pcm.specs.declared.Error.TheVariants.{InvalidGeometry}
-use Rattle.pcm.specs.Refusals.{ask, refusal, room_verdict}
+use Rattle.pcm.specs.Refusals.{ask, refusal, room_verdict, Verdict}
 use Rattle.pcm.specs.Samples.{held16, outside16, decode, encode}
 use Rattle.pcm.specs.Frames.{Frame, frames_of, bytes_of, written}
 use Rattle.counting.specs.Counting.{count_of}
 use Rattle.mean.specs.Mean.{mean}
-use Rattle.channels.specs.declared.MixAnswer.{MixAnswer}
-use Rattle.channels.specs.declared.MixAnswer.TheVariants as answer
 use Rattle.channels.specs.declared.MixTold.{MixTold}
 
 -- mono to stereo doubles each sample
@@ -55,23 +52,23 @@ unfoldable pub mix_verdict : List ℕ → List ℕ → List ℕ → Verdict
 mix_verdict a b out = ask (eqb (length a) (length b) && eqb (length a % 2) 0) InvalidGeometry (room_verdict (length a) (length out))
 
 -- the answer where the questions come to a verdict: an accepted mix tells how many sums were held back
-abbrev pub answer_of_mixing : Verdict → ℕ → MixAnswer
-answer_of_mixing Accepted clipped = answer.Mixed clipped
-answer_of_mixing (Refused e) clipped = answer.Refused e
+abbrev pub answer_of_mixing : Verdict → ℕ → Result ℕ Error
+answer_of_mixing (Ok tt) clipped = Ok clipped
+answer_of_mixing (Err e) clipped = Err e
 
-unfoldable pub mix_answer : List ℕ → List ℕ → List ℕ → MixAnswer
+unfoldable pub mix_answer : List ℕ → List ℕ → List ℕ → Result ℕ Error
 mix_answer a b out = answer_of_mixing (mix_verdict a b out) (mix_clipped (decode a) (decode b))
 
 -- the buffer afterwards: bytes past those written stay, and a refusal alters nothing
-abbrev pub after_mix : MixAnswer → List ℕ → List ℕ → List ℕ → List ℕ
-after_mix (answer.Mixed clipped) a b out = written (mixed_bytes a b) out
-after_mix (answer.Refused e) a b out = out
+abbrev pub after_mix : (Result ℕ Error) → List ℕ → List ℕ → List ℕ → List ℕ
+after_mix (Ok clipped) a b out = written (mixed_bytes a b) out
+after_mix (Err e) a b out = out
 
 -- ---- the paper's number, needed and count: of each case, and of a call whose questions came to a verdict
-abbrev pub mix_told : MixAnswer → MixTold
-mix_told (answer.Mixed clipped) = record { number = 0; needed = 0; clipped = clipped }
-mix_told (answer.Refused e) = record { number = (refusal e).number; needed = (refusal e).needed; clipped = 0 }
+abbrev pub mix_told : (Result ℕ Error) → MixTold
+mix_told (Ok clipped) = record { number = 0; needed = 0; clipped = clipped }
+mix_told (Err e) = record { number = (refusal e).number; needed = (refusal e).needed; clipped = 0 }
 
 abbrev pub told_of_mixing : Verdict → ℕ → MixTold
-told_of_mixing Accepted clipped = record { number = 0; needed = 0; clipped = clipped }
-told_of_mixing (Refused e) clipped = record { number = (refusal e).number; needed = (refusal e).needed; clipped = 0 }
+told_of_mixing (Ok tt) clipped = record { number = 0; needed = 0; clipped = clipped }
+told_of_mixing (Err e) clipped = record { number = (refusal e).number; needed = (refusal e).needed; clipped = 0 }

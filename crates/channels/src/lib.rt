@@ -7,7 +7,7 @@ ghost use Rattle.pcm.specs.Samples.{sample_at, encode, decode, outside16};
 ghost use Rattle.mean.specs.Mean.{mean};
 ghost use Rattle.channels.specs.Channels.{stereo_bytes, mono_bytes, mixed, mixed_bytes, mix_clipped, mix_verdict, mix_answer, after_mix, mix_told, told_of_mixing};
 
-use pcm::{Error, Verdict};
+use pcm::{Error};
 
 // What a mix comes to: how many sums were held back, or why it is refused.
 #[derive(Clone, Copy)]
@@ -202,8 +202,8 @@ pub fn mix_i16(a: &[u8], b: &[u8], out: &mut [u8]) -> MixAnswer
         return MixAnswer::Refused(Error::InvalidGeometry);
     }
     match pcm::require_room(out, n) {
-        Verdict::Refused(e) => MixAnswer::Refused(e),
-        Verdict::Accepted => {
+        Err(e) => MixAnswer::Refused(e),
+        Ok(()) => {
             let count = mix_clipped(a, b);
             mix_block(a, b, out);
             MixAnswer::Mixed { clipped: count }

@@ -1,21 +1,18 @@
 -- The coefficients of the Audio EQ Cookbook (Bristow-Johnson), in binary64 as biquad.rs orders them, each operation rounded once.
 -- Definitions only.
-use Rattle.std.specs.Prelude.{ℕ, Bool, true, false, cond, ◌&&◌, pos, Float}
+use Rattle.pcm.specs.declared.Error.{Error}
+use Rattle.std.specs.Prelude.{ℕ, Bool, true, false, cond, ◌&&◌, pos, Float, Ok, Err, Result}
 use Rattle.std.specs.Float.{inf, binary32, binary64}
 use Rattle.std.specs.Float.Ieee.{of_int, neg, lt, le}
 use Rattle.pcm.specs.declared.Error.TheVariants.{InvalidFormat}
 use Rattle.floats.specs.Floats.{narrowed}
 use Rattle.floats.specs.Operations.{plus_zero, ◌+₆₄◌, ◌-₆₄◌, ◌*₆₄◌, ◌/₆₄◌}
-use Rattle.pcm.specs.declared.Verdict.{Verdict}
-use Rattle.pcm.specs.declared.Verdict.TheVariants.{Accepted}
 use Rattle.pcm.specs.Formats.{rate_allowed}
-use Rattle.pcm.specs.Refusals.{refusal, ask, number_of, if_accepted}
+use Rattle.pcm.specs.Refusals.{refusal, ask, number_of, if_accepted, Verdict}
 use Rattle.cookbook.specs.declared.BiquadKind.{BiquadKind}
 use Rattle.cookbook.specs.declared.BiquadKind.TheVariants.{LowPass, HighPass, Peak, Notch}
 use Rattle.cookbook.specs.declared.Section.{Section}
 use Rattle.cookbook.specs.declared.Coefficients.{Coefficients}
-use Rattle.cookbook.specs.declared.DesignAnswer.{DesignAnswer}
-use Rattle.cookbook.specs.declared.DesignAnswer.TheVariants.{Designed, Refused}
 use Rattle.cookbook.specs.declared.DesignTold.{DesignTold}
 
 abbrev pub zero : Float
@@ -127,18 +124,18 @@ coefficients_of kind sine cosine a = normalised (cookbook kind cosine (alpha_of 
 
 -- are the settings within their limits? else 1
 unfoldable pub design_verdict : BiquadKind → ℕ → Float → Float → Float → Verdict
-design_verdict kind rate sine cosine a = ask (design_allowed kind rate sine cosine a) InvalidFormat Accepted
+design_verdict kind rate sine cosine a = ask (design_allowed kind rate sine cosine a) InvalidFormat (Ok tt)
 
-unfoldable pub design_answer : BiquadKind → ℕ → Float → Float → Float → DesignAnswer
-design_answer kind rate sine cosine a = cond (design_allowed kind rate sine cosine a) (Designed (coefficients_of kind sine cosine a)) (Refused InvalidFormat)
+unfoldable pub design_answer : BiquadKind → ℕ → Float → Float → Float → Result Coefficients Error
+design_answer kind rate sine cosine a = cond (design_allowed kind rate sine cosine a) (Ok (coefficients_of kind sine cosine a)) (Err InvalidFormat)
 
 abbrev pub all_zero : Coefficients
 all_zero = record { b0 = plus_zero; b1 = plus_zero; b2 = plus_zero; a1 = plus_zero; a2 = plus_zero }
 
 -- the number and the coefficients that each answer tells: 0 and the coefficients, or the refusal's number and five times 0
-abbrev pub design_told : DesignAnswer → DesignTold
-design_told (Designed k) = record { number = 0; coefficients = k }
-design_told (Refused e) = record { number = (refusal e).number; coefficients = all_zero }
+abbrev pub design_told : (Result Coefficients Error) → DesignTold
+design_told (Ok k) = record { number = 0; coefficients = k }
+design_told (Err e) = record { number = (refusal e).number; coefficients = all_zero }
 
 -- the same by the questions
 abbrev pub design_valued : Verdict → Coefficients → DesignTold

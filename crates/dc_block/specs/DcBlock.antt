@@ -1,18 +1,15 @@
 -- The DC block (document 01, dc_block.rs): each operation rounded once in binary32, in the order written. Definitions only.
-use Rattle.std.specs.Prelude.{cond, ℕ, ℤ, pos, Float}
+use Rattle.pcm.specs.declared.Error.{Error}
+use Rattle.std.specs.Prelude.{cond, ℕ, ℤ, pos, Float, Ok, Err, Result}
 use Rattle.std.specs.Float.{binary32}
 use Rattle.std.specs.Float.Ieee.{of_int, of_bits}
 use Rattle.pcm.specs.declared.Error.TheVariants.{InvalidFormat}
-use Rattle.pcm.specs.declared.Verdict.{Verdict}
-use Rattle.pcm.specs.declared.Verdict.TheVariants.{Accepted}
 use Rattle.pcm.specs.Formats.{rate_allowed}
-use Rattle.pcm.specs.Refusals.{refusal, ask, number_of, if_accepted}
+use Rattle.pcm.specs.Refusals.{refusal, ask, number_of, if_accepted, Verdict}
 use Rattle.floats.specs.Operations.{plus_zero, ◌+₃₂◌, ◌-₃₂◌, ◌*₃₂◌, ◌/₃₂◌}
 use Rattle.filters.specs.Filters.{Taps}
 use Rattle.dc_block.specs.declared.DcBlock.{DcBlock}
-use Rattle.dc_block.specs.declared.PoleAnswer.{PoleAnswer}
 use Rattle.dc_block.specs.declared.PoleTold.{PoleTold}
-use Rattle.dc_block.specs.declared.PoleAnswer.TheVariants.{Pole, Refused}
 
 -- (x - x1) + r * y1
 abbrev pub blocked : Float → Float → Float → Float → Float
@@ -32,15 +29,15 @@ pole_of corner rate = of_int binary32 (pos 1) -₃₂ (tau *₃₂ corner) /₃�
 
 -- is the rate within its limit? else 1
 unfoldable pub pole_verdict : ℕ → Verdict
-pole_verdict rate = ask (rate_allowed rate) InvalidFormat Accepted
+pole_verdict rate = ask (rate_allowed rate) InvalidFormat (Ok tt)
 
-unfoldable pub pole_answer : Float → ℕ → PoleAnswer
-pole_answer corner rate = cond (rate_allowed rate) (Pole (pole_of corner rate)) (Refused InvalidFormat)
+unfoldable pub pole_answer : Float → ℕ → Result Float Error
+pole_answer corner rate = cond (rate_allowed rate) (Ok (pole_of corner rate)) (Err InvalidFormat)
 
 -- the number and the pole that each answer tells: 0 and the pole, or the refusal's number and 0
-abbrev pub pole_told : PoleAnswer → PoleTold
-pole_told (Pole r) = record { number = 0; pole = r }
-pole_told (Refused e) = record { number = (refusal e).number; pole = plus_zero }
+abbrev pub pole_told : (Result Float Error) → PoleTold
+pole_told (Ok r) = record { number = 0; pole = r }
+pole_told (Err e) = record { number = (refusal e).number; pole = plus_zero }
 
 -- the same by the question
 abbrev pub pole_valued : Verdict → Float → PoleTold

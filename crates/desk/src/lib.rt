@@ -4,7 +4,7 @@
 ghost use mathlib.Core.Path.{◌≡◌};
 ghost use Rattle.desk.specs.Desk.{desk_open};
 
-use pcm::{Error, PcmFormat, Verdict};
+use pcm::{Error, PcmFormat};
 use pipeline::{Opened, Pipeline};
 
 // The bytes of a file that they take.
@@ -18,7 +18,7 @@ pub fn open(format: PcmFormat, recipe: &[u8]) -> Opened
     if recipe.len() > MAX_FILE {
         let chain = opened.chain;
         return Opened {
-            verdict: Verdict::Refused(Error::TooLong),
+            verdict: Err(Error::TooLong),
             chain,
         };
     }

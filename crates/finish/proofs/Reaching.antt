@@ -1,4 +1,5 @@
 -- From before one stage of a finish to before the next, and to the end. Assumes nothing.
+use Rattle.std.specs.Prelude.{Ok}
 use mathlib.Core.Path.{◌≡◌, refl, sym, ap, ap₂, ◌∙◌, subst}
 use mathlib.Core.Bool.{true}
 use mathlib.Core.List.{List, [], ◌∷◌}
@@ -10,7 +11,6 @@ use native.Mathlib.Omega.{arith}
 use borrow.Author.Tests.{eq-eqb, ne_eqb}
 use lib.ListN.{length, take, drop, get_or}
 use Rattle.pcm.specs.declared.PcmFormat.{PcmFormat}
-use Rattle.pcm.specs.declared.Verdict.TheVariants.{Accepted}
 use Rattle.pcm.specs.Frames.{Frame, FramesOf, frames_of, bytes_of}
 use Rattle.pcm.specs.laws.Frames.{length_bytes, frames_bytes, frames-nil, front_written}
 use Rattle.stage.specs.declared.Stage.{Stage}
@@ -41,7 +41,7 @@ pub record EndReached (stages : List Stage) (count : ℕ) (format : PcmFormat) (
   pub size : n ≡ length (bytes_of xs)
   pub within : n ≤ short
   pub suit : suited f (drop i (take count stages)) ≡ true
-  pub room : end_verdict f (drop i (take count stages)) (length xs) short ≡ Accepted
+  pub room : end_verdict f (drop i (take count stages)) (length xs) short ≡ Ok tt
   pub sides : ended_halves 0 format (take count stages) [] before ≡ ended_halves i f (drop i (take count stages)) xs h
   pub makes : chain_end format (take count stages) [] ≡ chain_end f (drop i (take count stages)) xs
   pub clips : Clips count (end_clipped format (take count stages) []) format.rate (end_clipped f (drop i (take count stages)) xs) f (length xs) i clipped
@@ -128,7 +128,7 @@ module _ (stages : List Stage) (count : ℕ) (format : PcmFormat) (before : Halv
   suit_here : stage_suits f s.kind s.memory ≡ true
   suit_here = suited_first f s rest suit_all
 
-  room_all : end_verdict f (s ∷ rest) (length r.xs) short ≡ Accepted
+  room_all : end_verdict f (s ∷ rest) (length r.xs) short ≡ Ok tt
   room_all = sym (ap (λ (l : List Stage). end_verdict f l (length r.xs) short) ahead) ∙ r.room
 
   room_here : frames_at_end s.kind s.memory (length r.xs) * ((format_after f s.kind).channels * 2) ≤ short

@@ -1,12 +1,12 @@
 -- Number and values of a finish, from the call that it is the answer of. Assumes nothing.
+use Rattle.std.specs.Prelude.{Ok, Err}
+use Rattle.pcm.specs.Refusals.{Verdict}
 use mathlib.Core.Path.{◌≡◌, refl, ap, ◌∙◌}
 use mathlib.Core.Bool.{Bool, true, false, cond}
 use mathlib.Core.List.{List}
 use Prim.Native.Nat.{ℕ}
 use lib.Dec.{eqb}
 use Rattle.pcm.specs.declared.PcmFormat.{PcmFormat}
-use Rattle.pcm.specs.declared.Verdict.{Verdict}
-use Rattle.pcm.specs.declared.Verdict.TheVariants.{Accepted, Refused}
 use Rattle.pipeline.specs.declared.Pipeline.{Pipeline}
 use Rattle.pipeline.specs.Reset.{format_leaving}
 use Rattle.pipeline.specs.WritingBack.{stages_of}
@@ -29,8 +29,8 @@ module _ (c : Pipeline) (a b : List ℕ) where
 
   told_by : (v : Verdict) → finish_told (finish_concluded v c (halves a b)).answer ≡ told_of_finish v leaving (last_half c.count) (finish_bytes c) (finish_clipped c)
   unfolding finished
-  told_by Accepted = nothing_or_sound (eqb (finish_bytes c) 0)
-  told_by (Refused e) = refl
+  told_by (Ok tt) = nothing_or_sound (eqb (finish_bytes c) 0)
+  told_by (Err e) = refl
 
   pub with_told : (r : FinishResult) → r ≡ finish_call c a b → (r ≡ finish_call c a b) × (finish_told r.answer ≡ finish_call_told c a b)
   unfolding finish_call

@@ -1,10 +1,8 @@
 -- The finish call (document 02, Q-1 and Q-2): from a chain and two halves to all that is there afterwards. Definitions only.
-use Rattle.std.specs.Prelude.{List, [], ◌∷◌, ℕ, suc, ◌+◌, ◌*◌, leb, length}
+use Rattle.std.specs.Prelude.{List, [], ◌∷◌, ℕ, suc, ◌+◌, ◌*◌, leb, length, Ok, Err}
 use Rattle.pcm.specs.declared.PcmFormat.{PcmFormat}
 use Rattle.pcm.specs.declared.Error.TheVariants.{InvalidFormat, BufferTooSmall}
-use Rattle.pcm.specs.declared.Verdict.{Verdict}
-use Rattle.pcm.specs.declared.Verdict.TheVariants.{Accepted, Refused}
-use Rattle.pcm.specs.Refusals.{ask}
+use Rattle.pcm.specs.Refusals.{ask, Verdict}
 use Rattle.pcm.specs.Frames.{Frame, bytes_of}
 use Rattle.stage.specs.declared.Stage.{Stage}
 use Rattle.stage.specs.Stages.{stage_clipped, format_after}
@@ -37,7 +35,7 @@ room_at_end f s n = frames_at_end s.kind s.memory n * ((format_after f s.kind).c
 
 -- At each stage, in chain order, does the shorter half hold the room wanted? else 3, with needed = twice that of the first stage short
 unfoldable pub end_verdict : PcmFormat → List Stage → ℕ → ℕ → Verdict
-end_verdict f [] n shorter = Accepted
+end_verdict f [] n shorter = Ok tt
 end_verdict f (s ∷ rest) n shorter =
     ask (leb (room_at_end f s n) shorter) (BufferTooSmall (2 * room_at_end f s n))
     (end_verdict (format_after f s.kind) rest (frames_at_end s.kind s.memory n) shorter)
@@ -78,8 +76,8 @@ finished c h = record {
 
 -- a refusal alters nothing
 abbrev pub finish_concluded : Verdict → Pipeline → Halves → FinishResult
-finish_concluded Accepted c h = finished c h
-finish_concluded (Refused e) c h = record { chain = c; answer = answer.Refused e; a = h.a; b = h.b }
+finish_concluded (Ok tt) c h = finished c h
+finish_concluded (Err e) c h = record { chain = c; answer = answer.Refused e; a = h.a; b = h.b }
 
 -- the finish call: from the chain and the two halves to all that is there afterwards
 unfoldable pub finish_call : Pipeline → List ℕ → List ℕ → FinishResult

@@ -1,11 +1,10 @@
 -- The finish call where nothing is due: the chief theorem of this crate (document 02, Q-1). Assumes nothing.
-use Rattle.std.specs.Prelude.{◌≡◌, ℕ}
+use Rattle.std.specs.Prelude.{◌≡◌, ℕ, Ok}
 use Rattle.std.proofs.Math.Path.{sym}
 use Rattle.std.proofs.Common.{ap, ◌∙◌, le-leb}
 use Rattle.std.proofs.Math.Bool.{true}
 use mathlib.Core.List.{List, [], ◌++◌, map}
 use Rattle.std.proofs.Math.ListN.{drop, take-append-drop}
-use Rattle.pcm.specs.declared.Verdict.TheVariants.{Accepted}
 use Rattle.pcm.specs.Frames.{bytes_of}
 use Rattle.stage.specs.declared.Stage.{Stage}
 use Rattle.stage.specs.Stages.{kinds_of, stage_as_opened, stage_clear}
@@ -26,7 +25,7 @@ module _ (c : Pipeline) (lawful : legal c ≡ true) (silent : stages_of c ≡ ma
   as_opened : stages_of c ≡ map stage_as_opened (kinds_of (stages_of c))
   as_opened = silent ∙ clear_is_opened (stages_of c)
 
-  accepted : (short : ℕ) → finish_verdict c short ≡ Accepted
+  accepted : (short : ℕ) → finish_verdict c short ≡ Ok tt
   unfolding finish_verdict
   accepted short =
       let suit : suited c.format (map stage_as_opened (kinds_of (stages_of c))) ≡ true = sym (ap (suited c.format) as_opened) ∙ (legal_parts c lawful).suit in

@@ -1,10 +1,8 @@
 -- What the walk of a finish answers, an accepted finish, and one stage's turn between the halves. Definitions only.
-use Rattle.std.specs.Prelude.{◌≡◌, true, cond, List, ℕ, ◌*◌, ◌%◌, eqb, length, take}
+use Rattle.std.specs.Prelude.{◌≡◌, true, cond, List, ℕ, ◌*◌, ◌%◌, eqb, length, take, Ok}
 use Rattle.pcm.specs.declared.PcmFormat.{PcmFormat}
 use Rattle.pcm.specs.declared.Error.TheVariants.{InvalidFormat, BufferTooSmall}
-use Rattle.pcm.specs.declared.Verdict.{Verdict}
-use Rattle.pcm.specs.declared.Verdict.TheVariants.{Accepted}
-use Rattle.pcm.specs.Refusals.{ask}
+use Rattle.pcm.specs.Refusals.{ask, Verdict}
 use Rattle.pcm.specs.Frames.{Frame, FramesOf, bytes_of}
 use Rattle.stage.specs.declared.Stage.{Stage}
 use Rattle.stage.specs.Stages.{stage_clipped, format_after}
@@ -23,7 +21,7 @@ use Rattle.finish.specs.FinishCall.{end_verdict}
 
 -- Is every stage legal? else 1. Room? else 3, with needed = twice the room of the first stage short
 unfoldable pub end_from : Walk → Verdict
-end_from w = ask w.legal InvalidFormat (ask (eqb w.short 0) (BufferTooSmall (2 * w.short)) Accepted)
+end_from w = ask w.legal InvalidFormat (ask (eqb w.short 0) (BufferTooSmall (2 * w.short)) (Ok tt))
 
 -- stage i + 1 reads the first n bytes of the half that the one before wrote
 abbrev pub source_for : ℕ → ℕ → Halves → List ℕ
@@ -39,7 +37,7 @@ pub record EndTurn (f : PcmFormat) (s : Stage) (xs : List Frame) (i len clipped 
 -- a finish whose questions were all answered yes
 pub record Finishes (c : Pipeline) (a b : List ℕ) : Type 0 where
   pub chain : legal c ≡ true
-  pub room : end_verdict c.format (stages_of c) 0 (shorter a b) ≡ Accepted
+  pub room : end_verdict c.format (stages_of c) 0 (shorter a b) ≡ Ok tt
 
 -- the chain cleared, and the answer
 unfoldable pub ended_as : Pipeline → EndApplied → Finished

@@ -14,7 +14,7 @@ ghost use Rattle.finish.specs.Turns.{end_from, source_for, EndTurn, Finishes, en
 
 use answers::FinishAnswer;
 use end_turns::EndApplied;
-use pcm::{Error, PcmFormat, Verdict};
+use pcm::{Error, PcmFormat};
 use pipeline::Pipeline;
 use questions::{Question, Walk};
 use stage::Stage;
@@ -26,29 +26,29 @@ pub struct Finished {
 }
 
 // After the walk: is every stage legal, and does the shorter half hold each one's bytes in this call?
-pub fn verdict(walk: Walk) -> Verdict
+pub fn verdict(walk: Walk) -> Result<(), Error>
     requires { walk.short ≤ 3688000000000000000 }
     ensures { result ≡ end_from walk }
 {
     if !walk.legal {
-        return Verdict::Refused(Error::InvalidFormat);
+        return Err(Error::InvalidFormat);
     }
     if walk.short != 0 {
-        return Verdict::Refused(Error::BufferTooSmall {
+        return Err(Error::BufferTooSmall {
             needed: 2 * walk.short,
         });
     }
-    Verdict::Accepted
+    Ok(())
 }
 
 // The questions of a finish, in their order, by the walk that asks a block's: nothing arrives at the first stage.
-fn finish_question(chain: Pipeline, shorter: usize) -> Verdict
+fn finish_question(chain: Pipeline, shorter: usize) -> Result<(), Error>
     ensures { result ≡ finish_verdict chain shorter }
 {
     let own = chain.format;
     let count = chain.count;
     if !questions::head_legal(own, count) {
-        return Verdict::Refused(Error::InvalidFormat);
+        return Err(Error::InvalidFormat);
     }
     let start = questions::begun(own, count, 0, shorter);
     let walk = block::walked(chain, Question::Finish, shorter, start);
@@ -121,10 +121,10 @@ pub fn finish(chain: Pipeline, a: &mut [u8], b: &mut [u8]) -> Finished
     let shorter = answers::shorter_of(a.len(), b.len());
     let asked = finish_question(chain, shorter);
     match asked {
-        Verdict::Refused(e) => Finished {
+        Err(e) => Finished {
             chain,
             answer: FinishAnswer::Refused(e),
         },
-        Verdict::Accepted => play(chain, a, b),
+        Ok(()) => play(chain, a, b),
     }
 }

@@ -1,4 +1,5 @@
 -- Laws: a chain that was opened can be kept in words. Assumes nothing.
+use Rattle.std.specs.Prelude.{Ok, Err}
 use mathlib.Core.Path.{◌≡◌, refl, ◌∙◌, subst}
 use mathlib.Core.Bool.{Bool, true, false, cond}
 use mathlib.Core.List.{List, [], ◌∷◌}
@@ -7,10 +8,8 @@ use native.Mathlib.Omega.{arith}
 use lib.ListN.{length, replicate, length-append, length-replicate}
 use Rattle.pcm.specs.declared.PcmFormat.{PcmFormat}
 use Rattle.pcm.specs.declared.Error.TheVariants.{InvalidFormat}
-use Rattle.pcm.specs.declared.Verdict.{Verdict}
-use Rattle.pcm.specs.declared.Verdict.TheVariants.{Accepted, Refused}
 use Rattle.pcm.specs.Formats.{format_allowed}
-use Rattle.pcm.specs.Refusals.{ask}
+use Rattle.pcm.specs.Refusals.{ask, Verdict}
 use Rattle.pcm.specs.Samples.{All}
 use Rattle.pcm.specs.Frames.{written}
 use Rattle.pcm.specs.laws.Frames.{all_append}
@@ -40,9 +39,9 @@ small_kind f (rec.DcBlock corner) h = tt
 small_kind f (rec.Biquad rate bits) h = refl
 
 -- ---- the stages of a recipe
-asked_opened : (v : Verdict) (x : Stages) (ss : List Stage) → asked v x ≡ opened ss → (v ≡ Accepted) × (x ≡ opened ss)
-asked_opened Accepted x ss e = (refl, e)
-asked_opened (Refused r) x ss e = (cc, cc)
+asked_opened : (v : Verdict) (x : Stages) (ss : List Stage) → asked v x ≡ opened ss → (v ≡ Ok tt) × (x ≡ opened ss)
+asked_opened (Ok tt) x ss e = (refl, e)
+asked_opened (Err r) x ss e = (cc, cc)
 
 no_more : (ss : List Stage) → opened [] ≡ opened ss → All Small ss
 no_more [] e = tt
@@ -90,17 +89,17 @@ module _ (f : PcmFormat) (channels : f.channels < 65536) where
   }
 
   abbrev answer_of : Bool → Stages → Opened
-  answer_of b x = opened_of f (asked (ask b InvalidFormat Accepted) x)
+  answer_of b x = opened_of f (asked (ask b InvalidFormat (Ok tt)) x)
 
-  opened_storable : (bytes : List ℕ) → (open_call f bytes).verdict ≡ Accepted → All HeldStage (open_call f bytes).chain.stages → Storable (open_call f bytes).chain
+  opened_storable : (bytes : List ℕ) → (open_call f bytes).verdict ≡ Ok tt → All HeldStage (open_call f bytes).chain.stages → Storable (open_call f bytes).chain
   unfolding open_call
   opened_storable bytes = by_format (format_allowed f) (open_stages 8 f bytes) refl
     where
-      by_format : (b : Bool) (x : Stages) → open_stages 8 f bytes ≡ x → (answer_of b x).verdict ≡ Accepted → All HeldStage (answer_of b x).chain.stages → Storable (answer_of b x).chain
+      by_format : (b : Bool) (x : Stages) → open_stages 8 f bytes ≡ x → (answer_of b x).verdict ≡ Ok tt → All HeldStage (answer_of b x).chain.stages → Storable (answer_of b x).chain
       by_format true (opened ss) q e held = chain_storable ss (opened_few 8 f bytes ss q) (small_opened 8 f bytes ss q) held
       by_format true (refused r) q e held = chain_storable [] (omega arith) tt held
       by_format false x q e held = chain_storable [] (omega arith) tt held
 
   -- after an opening the words stand for the chain opened
-  pub open_stands : (bytes w : List ℕ) → (open_call f bytes).verdict ≡ Accepted → All HeldStage (open_call f bytes).chain.stages → chain_of_words (written (words_of (open_call f bytes).chain) w) ≡ (open_call f bytes).chain
+  pub open_stands : (bytes w : List ℕ) → (open_call f bytes).verdict ≡ Ok tt → All HeldStage (open_call f bytes).chain.stages → chain_of_words (written (words_of (open_call f bytes).chain) w) ≡ (open_call f bytes).chain
   open_stands bytes w e held = written_stands (open_call f bytes).chain (opened_storable bytes e held) w

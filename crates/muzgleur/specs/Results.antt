@@ -1,14 +1,12 @@
 -- What the exported calls answer and leave in the words. Definitions only.
-use Rattle.std.specs.Prelude.{Bool, cond, List, ℕ, leb, length}
+use Rattle.pcm.specs.declared.Error.{Error}
+use Rattle.std.specs.Prelude.{Bool, cond, List, ℕ, leb, length, Ok, Err, Result}
 use Rattle.pcm.specs.declared.PcmFormat.{PcmFormat}
-use Rattle.pcm.specs.declared.Verdict.{Verdict}
-use Rattle.pcm.specs.declared.Verdict.TheVariants.{Accepted, Refused}
 use Rattle.pcm.specs.Frames.{written}
-use Rattle.pcm.specs.Refusals.{refusal}
+use Rattle.pcm.specs.Refusals.{refusal, Verdict}
 use Rattle.pipeline.specs.declared.Pipeline.{Pipeline}
 use Rattle.pipeline.specs.declared.Opened.{Opened}
 use Rattle.answers.specs.declared.Told.{Told}
-use Rattle.answers.specs.declared.Scratch.{Scratch}
 use Rattle.block.specs.BlockCall.{Result}
 use Rattle.answers.specs.Answers.{answer_told, scratch_told}
 use Rattle.word_finish.specs.Words.{Outcome}
@@ -19,8 +17,8 @@ use Rattle.muzgleur.specs.declared.ScratchResult.{ScratchResult}
 
 -- ---- opening: the chain to the front of the words; a refusal alters none
 abbrev pub opened_words : List ℕ → Verdict → Pipeline → Outcome
-opened_words w Accepted c = record { number = 0; words = written (words_of c) w }
-opened_words w (Refused e) c = record { number = (refusal e).number; words = w }
+opened_words w (Ok tt) c = record { number = 0; words = written (words_of c) w }
+opened_words w (Err e) c = record { number = (refusal e).number; words = w }
 
 -- too few words are 1
 abbrev pub open_outcome : List ℕ → Opened → Outcome
@@ -44,5 +42,5 @@ counter_result known c = record { number = cond known 0 1; blocks = c.blocks; em
 abbrev pub format_result : PcmFormat → Format
 format_result f = record { rate = f.rate; channels = f.channels }
 
-abbrev pub scratch_result : Scratch → ScratchResult
+abbrev pub scratch_result : (Result ℕ Error) → ScratchResult
 scratch_result s = record { number = (scratch_told s).number; value = (scratch_told s).value }

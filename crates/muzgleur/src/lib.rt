@@ -14,7 +14,7 @@ ghost use Rattle.word_finish.specs.Words.{reset_outcome, finish_outcome, finish_
 ghost use Rattle.muzgleur.specs.Results.{open_outcome, block_outcome, counter_result, format_result, scratch_result};
 
 use answers::{FinishTold, Told};
-use pcm::{PcmFormat, Verdict};
+use pcm::{PcmFormat};
 use pipeline::{Pipeline, WriteTold};
 use room::RoomTold;
 
@@ -53,11 +53,11 @@ pub fn muzgleur_open(rate: u32, channels: u16, recipe: &[u8], chain: &mut [u32])
     let verdict = opened.verdict;
     let made = opened.chain;
     match verdict {
-        Verdict::Accepted => {
+        Ok(()) => {
             chain_words::put_chain(chain, made);
             0
         }
-        Verdict::Refused(e) => e.number(),
+        Err(e) => e.number(),
     }
 }
 

@@ -1,10 +1,8 @@
 -- The desk program's page: the lines, or the refusal's number alone (document 02, Q-4). Definitions only.
-use Rattle.std.specs.Prelude.{cond, List, [], ◌∷◌, ℕ, ◌/◌, ◌%◌, leb, ltb, length}
+use Rattle.std.specs.Prelude.{cond, List, [], ◌∷◌, ℕ, ◌/◌, ◌%◌, leb, ltb, length, Ok, Err}
 use Rattle.pcm.specs.declared.PcmFormat.{PcmFormat}
 use Rattle.pcm.specs.declared.Error.TheVariants.{TooLong}
-use Rattle.pcm.specs.declared.Verdict.{Verdict}
-use Rattle.pcm.specs.declared.Verdict.TheVariants as verdict
-use Rattle.pcm.specs.Refusals.{ask, refusal, room_verdict}
+use Rattle.pcm.specs.Refusals.{ask, refusal, room_verdict, Verdict}
 use Rattle.pipeline.specs.Opening.{open_call}
 use Rattle.pipeline.specs.declared.WriteTold.{WriteTold}
 use Rattle.pipeline.specs.WritingBack.{WriteOutcome, write_outcome, told_of_writing}
@@ -21,8 +19,8 @@ number_line n = cond (ltb n 10) (digit n ∷ 0x0a ∷ []) (digit (n / 10) ∷ di
 
 -- the lines, or the refusal number alone
 abbrev pub printed : Verdict → List ℕ → List ℕ
-printed verdict.Accepted recipe = lines_of recipe
-printed (verdict.Refused e) recipe = number_line (refusal e).number
+printed (Ok tt) recipe = lines_of recipe
+printed (Err e) recipe = number_line (refusal e).number
 
 -- the page of a recipe, with rate and channels as they were typed
 unfoldable pub page_of : List ℕ → List ℕ → List ℕ → List ℕ

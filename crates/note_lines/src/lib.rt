@@ -11,7 +11,7 @@ ghost use Rattle.note_lines.specs.Page.{desk_verdict, number_line, printed, page
 ghost use Rattle.note_lines.specs.laws.Lines.{line_if};
 ghost use Rattle.note_lines.specs.laws.Page.{Readable};
 
-use pcm::{Error, PcmFormat, Verdict};
+use pcm::{Error, PcmFormat};
 use pipeline::{Pipeline, WriteAnswer};
 
 mod arguments;
@@ -118,11 +118,11 @@ fn write_lines(recipe: &[u8], out: &mut [u8])
 }
 
 // Is the recipe within its limit, and does it open?
-fn desk_question(format: PcmFormat, recipe: &[u8]) -> Verdict
+fn desk_question(format: PcmFormat, recipe: &[u8]) -> Result<(), Error>
     ensures { result ≡ desk_verdict format recipe.now }
 {
     if recipe.len() > MAX_RECIPE {
-        return Verdict::Refused(Error::TooLong);
+        return Err(Error::TooLong);
     }
     let opened = Pipeline::open(format, recipe);
     opened.verdict
@@ -154,24 +154,24 @@ fn put_number(number: u16, out: &mut [u8])
 }
 
 // How many bytes the page has that goes by this verdict.
-fn page_size(verdict: Verdict, recipe: &[u8]) -> usize
+fn page_size(verdict: Result<(), Error>, recipe: &[u8]) -> usize
     requires { Readable verdict recipe.now }
     ensures { result ≡ length (printed verdict recipe.now) }
 {
     match verdict {
-        Verdict::Accepted => lines_size(recipe),
-        Verdict::Refused(e) => number_size(e.number()),
+        Ok(()) => lines_size(recipe),
+        Err(e) => number_size(e.number()),
     }
 }
 
 // That page, at the front of out.
-fn write_page(verdict: Verdict, recipe: &[u8], out: &mut [u8])
+fn write_page(verdict: Result<(), Error>, recipe: &[u8], out: &mut [u8])
     requires { Readable verdict recipe.now × (length (printed verdict recipe.now) ≤ length out.old) }
     ensures { out.new ≡ written (printed verdict recipe.now) out.old }
 {
     match verdict {
-        Verdict::Accepted => write_lines(recipe, out),
-        Verdict::Refused(e) => put_number(e.number(), out),
+        Ok(()) => write_lines(recipe, out),
+        Err(e) => put_number(e.number(), out),
     }
 }
 
@@ -185,7 +185,7 @@ pub fn page(rate: &[u8], channels: &[u8], recipe: &[u8], out: &mut [u8]) -> Writ
     let verdict = desk_question(format, recipe);
     let needed = page_size(verdict, recipe);
     let room = pcm::require_room(out, needed);
-    if let Verdict::Refused(e) = room {
+    if let Err(e) = room {
         return WriteAnswer::Refused(e);
     }
     write_page(verdict, recipe, out);

@@ -1,14 +1,13 @@
 -- One record's stage: its questions 8, 9 and 2, and the stage that it opens (document 01, 'The questions'). Definitions only.
-use Rattle.std.specs.Prelude.{Bool, true, ℕ, ltb, eqb}
+use Rattle.pcm.specs.declared.Error.{Error}
+use Rattle.std.specs.Prelude.{Bool, true, ℕ, ltb, eqb, Ok, Err, Result}
 use Rattle.std.specs.Float.{binary32}
 use Rattle.std.specs.Float.Ieee.{of_bits}
 use Rattle.gain.specs.Gain.{factor_allowed}
 use Rattle.pcm.specs.declared.PcmFormat.{PcmFormat}
 use Rattle.pcm.specs.declared.Error.TheVariants.{Unsupported, TooManyStages, SettingOutOfRange}
-use Rattle.pcm.specs.declared.Verdict.{Verdict}
-use Rattle.pcm.specs.declared.Verdict.TheVariants as verdict
 use Rattle.pcm.specs.Formats.{rate_allowed}
-use Rattle.pcm.specs.Refusals.{ask}
+use Rattle.pcm.specs.Refusals.{ask, Verdict}
 use Rattle.dc_block.specs.DcBlock.{pole_of}
 use Rattle.biquad.specs.Recurrence.{floats}
 use Rattle.rates.specs.Rates.{rates_allowed, reduced}
@@ -16,8 +15,6 @@ use Rattle.stage.specs.declared.StageKind.{StageKind}
 use Rattle.stage.specs.declared.StageKind.TheVariants as kind
 use Rattle.recipe.specs.declared.Record.{Record}
 use Rattle.recipe.specs.declared.Record.TheVariants as rec
-use Rattle.opening.specs.declared.StageAnswer.{StageAnswer}
-use Rattle.opening.specs.declared.StageAnswer.TheVariants as answer
 
 -- ---- one record: are gain and rates within their limits?
 abbrev pub settings_allowed : Record → Bool
@@ -43,7 +40,7 @@ stage_verdict more f r =
     ask (ltb 0 more) TooManyStages
     (ask (settings_allowed r) SettingOutOfRange
     (ask (record_suits f r) Unsupported
-    verdict.Accepted))
+    (Ok tt)))
 
 -- the stage of a record. The DC pole is worked out at the rate that reaches it
 abbrev pub stage_kind_of : PcmFormat → Record → StageKind
@@ -54,13 +51,13 @@ stage_kind_of f (rec.Resample input output) = kind.Resample (reduced input outpu
 stage_kind_of f (rec.DcBlock corner) = kind.DcBlock (record { corner = corner; r = pole_of (of_bits binary32 corner) f.rate })
 stage_kind_of f (rec.Biquad rate bits) = kind.Biquad (record { rate = rate; coefficients = floats bits; bits = bits })
 
-abbrev pub stage_answer_of : Verdict → StageKind → StageAnswer
-stage_answer_of verdict.Accepted k = answer.Stage k
-stage_answer_of (verdict.Refused e) k = answer.Refused e
+abbrev pub stage_answer_of : Verdict → StageKind → Result StageKind Error
+stage_answer_of (Ok tt) k = Ok k
+stage_answer_of (Err e) k = Err e
 
-abbrev pub stage_answer : ℕ → PcmFormat → Record → StageAnswer
+abbrev pub stage_answer : ℕ → PcmFormat → Record → Result StageKind Error
 stage_answer more f r = stage_answer_of (stage_verdict more f r) (stage_kind_of f r)
 
-abbrev pub stage_answer_verdict : StageAnswer → Verdict
-stage_answer_verdict (answer.Stage k) = verdict.Accepted
-stage_answer_verdict (answer.Refused e) = verdict.Refused e
+abbrev pub stage_answer_verdict : (Result StageKind Error) → Verdict
+stage_answer_verdict (Ok k) = Ok tt
+stage_answer_verdict (Err e) = Err e

@@ -9,7 +9,7 @@ ghost use Rattle.opening.specs.Opening.{settings_allowed, record_suits, stage_ki
 use biquad::Biquad;
 use dc_block::DcBlock;
 use gain::Gain;
-use pcm::{Error, PcmFormat, Verdict};
+use pcm::{Error, PcmFormat};
 use rates::{LinearResampler, NewResampler};
 use recipe::Record;
 use stage::{Stage, StageKind};
@@ -22,12 +22,12 @@ pub enum StageAnswer {
 
 impl StageAnswer {
     // What the questions came to.
-    pub fn verdict(self) -> Verdict
+    pub fn verdict(self) -> Result<(), Error>
         ensures { result ≡ stage_answer_verdict self }
     {
         match self {
-            StageAnswer::Stage(_) => Verdict::Accepted,
-            StageAnswer::Refused(e) => Verdict::Refused(e),
+            StageAnswer::Stage(_) => Ok(()),
+            StageAnswer::Refused(e) => Err(e),
         }
     }
 }

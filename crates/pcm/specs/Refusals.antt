@@ -1,9 +1,7 @@
 -- Refusals and their numbers (document 01, 'The questions'; document 02, Q-4). Definitions only.
-use Rattle.std.specs.Prelude.{ℕ, Bool, true, false, leb}
+use Rattle.std.specs.Prelude.{ℕ, Bool, true, false, leb, Result, Ok, Err}
 use Rattle.pcm.specs.declared.Error.{Error}
 use Rattle.pcm.specs.declared.Error.TheVariants.{InvalidFormat, Unsupported, BufferTooSmall, InvalidGeometry, ShortRecord, UnknownStage, RecordLength, TooManyStages, SettingOutOfRange, TooLong, NoteTooLong}
-use Rattle.pcm.specs.declared.Verdict.{Verdict}
-use Rattle.pcm.specs.declared.Verdict.TheVariants.{Accepted, Refused}
 
 -- a refusal yields its number, and 3 also the bytes needed
 pub record Refusal : Type 0 where
@@ -23,25 +21,29 @@ refusal SettingOutOfRange = record { number = 9; needed = 0 }
 refusal TooLong = record { number = 10; needed = 0 }
 refusal NoteTooLong = record { number = 11; needed = 0 }
 
+-- what a call's questions come to: accepted, or refused with an error
+abbrev pub Verdict : Type 0
+Verdict = Result Unit Error
+
 -- a question that is answered no ends the call with its refusal
 abbrev pub ask : Bool → Error → Verdict → Verdict
 ask true e more = more
-ask false e more = Refused e
+ask false e more = Err e
 
 -- further questions, where those before were answered yes
 abbrev pub and_then : Verdict → Verdict → Verdict
-and_then Accepted more = more
-and_then (Refused e) more = Refused e
+and_then (Ok tt) more = more
+and_then (Err e) more = Err e
 
 -- 0, or the refusal's number
 abbrev pub number_of : Verdict → ℕ
-number_of Accepted = 0
-number_of (Refused e) = (refusal e).number
+number_of (Ok tt) = 0
+number_of (Err e) = (refusal e).number
 
 -- a value that only an accepted call gives, and what stands for it where the call is refused
 abbrev pub if_accepted : {A : Type 0} → Verdict → A → A → A
-if_accepted Accepted value none = value
-if_accepted (Refused e) value none = none
+if_accepted (Ok tt) value none = value
+if_accepted (Err e) value none = none
 
 -- what a call that gives a number tells: 0 and its value, or the refusal's number and 0
 pub record Valued : Type 0 where
@@ -53,4 +55,4 @@ valued v value = record { number = number_of v; value = if_accepted v value 0 }
 
 -- is there room for the bytes needed? else 3
 unfoldable pub room_verdict : ℕ → ℕ → Verdict
-room_verdict needed room = ask (leb needed room) (BufferTooSmall needed) Accepted
+room_verdict needed room = ask (leb needed room) (BufferTooSmall needed) (Ok tt)

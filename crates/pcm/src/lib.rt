@@ -3,7 +3,7 @@
 
 ghost use Rattle.std.specs.Prelude.{◌≡◌, ◌+◌, ◌<◌, length};
 ghost use Rattle.pcm.specs.Formats.{rate_allowed, format_allowed, frame_bytes};
-ghost use Rattle.pcm.specs.Refusals.{refusal, number_of, room_verdict};
+ghost use Rattle.pcm.specs.Refusals.{refusal, room_verdict};
 ghost use Rattle.pcm.specs.Samples.{held16, outside16, saturated, sample_of, sample_at, stored};
 
 pub const MAX_CHANNELS: u16 = 2;
@@ -92,48 +92,20 @@ impl Error {
         ensures { result ≡ (refusal self).needed }
     {
         match self {
-            Error::InvalidFormat => 0,
-            Error::Unsupported => 0,
             Error::BufferTooSmall { needed } => needed,
-            Error::InvalidGeometry => 0,
-            Error::ShortRecord => 0,
-            Error::UnknownStage => 0,
-            Error::RecordLength => 0,
-            Error::TooManyStages => 0,
-            Error::SettingOutOfRange => 0,
-            Error::TooLong => 0,
-            Error::NoteTooLong => 0,
-        }
-    }
-}
-
-// What a call's questions come to.
-#[derive(Clone, Copy)]
-pub enum Verdict {
-    Accepted,
-    Refused(Error),
-}
-
-impl Verdict {
-    // 0, or the refusal's number.
-    pub fn number(self) -> u16
-        ensures { result ≡ number_of self }
-    {
-        match self {
-            Verdict::Accepted => 0,
-            Verdict::Refused(e) => e.number(),
+            _ => 0,
         }
     }
 }
 
 // Does `out` hold `needed` bytes?
-pub fn require_room(out: &[u8], needed: usize) -> Verdict
+pub fn require_room(out: &[u8], needed: usize) -> Result<(), Error>
     ensures { result ≡ room_verdict needed (length out.now) }
 {
     if out.len() < needed {
-        return Verdict::Refused(Error::BufferTooSmall { needed });
+        return Err(Error::BufferTooSmall { needed });
     }
-    Verdict::Accepted
+    Ok(())
 }
 
 // A sample, and whether it was held back.

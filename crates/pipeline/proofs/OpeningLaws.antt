@@ -1,12 +1,12 @@
 -- What a record's answer tells of its questions, and the rate that leaves a stage. Assumes nothing.
+use Rattle.std.specs.Prelude.{Ok, Err}
+use Rattle.pcm.specs.Refusals.{Verdict}
 use mathlib.Core.Path.{◌≡◌, refl}
 use mathlib.Core.Bool.{Bool, true, false, cond}
 use mathlib.Core.List.{List}
 use Prim.Native.Nat.{ℕ, ◌-◌}
 use Rattle.pcm.specs.declared.PcmFormat.{PcmFormat}
 use Rattle.pcm.specs.declared.Error.{Error}
-use Rattle.pcm.specs.declared.Verdict.{Verdict}
-use Rattle.pcm.specs.declared.Verdict.TheVariants.{Accepted, Refused}
 use Rattle.pcm.specs.Formats.{rate_allowed}
 use Rattle.rates.specs.Rates.{rates_allowed, reduced}
 use Rattle.stage.specs.Stages.{format_after}
@@ -15,7 +15,6 @@ use Rattle.recipe.specs.declared.Record.{Record}
 use Rattle.recipe.specs.declared.Record.TheVariants as rec
 use Rattle.recipe.specs.declared.Entry.{Entry}
 use Rattle.recipe.specs.declared.Entry.TheVariants as entry
-use Rattle.recipe.specs.declared.RecordAnswer.TheVariants as read
 use Rattle.recipe.specs.Records.{of_note, length_at, kind_at, record_at, record_verdict, entry_at, read_record, answered}
 use Rattle.opening.specs.Opening.{settings_allowed, stage_kind_of}
 use Rattle.pipeline.proofs.laws.Opening.{zero_not_one}
@@ -23,26 +22,26 @@ use Rattle.pipeline.proofs.laws.Opening.{zero_not_one}
 -- ---- what an answer tells of the questions
 -- a stage's record
 pub record StageRead (left : List ℕ) (r : Record) : Type 0 where
-  pub accepted : record_verdict left ≡ Accepted
+  pub accepted : record_verdict left ≡ Ok tt
   pub stage : of_note (kind_at left) ≡ false
   pub is : record_at left ≡ r
 
 -- a note of n bytes
 pub record NoteRead (left : List ℕ) (n : ℕ) : Type 0 where
-  pub accepted : record_verdict left ≡ Accepted
+  pub accepted : record_verdict left ≡ Ok tt
   pub note : of_note (kind_at left) ≡ true
   pub length_is : length_at left - 2 ≡ n
 
 module _ (left : List ℕ) where
-  read_entry : {found : Entry} → read_record left ≡ read.Entry found → (record_verdict left ≡ Accepted) × (entry_at left ≡ found)
+  read_entry : {found : Entry} → read_record left ≡ Ok found → (record_verdict left ≡ Ok tt) × (entry_at left ≡ found)
   unfolding read_record
   read_entry {found} h = go (record_verdict left) h
     where
-      go : (v : Verdict) → answered v (entry_at left) ≡ read.Entry found → (v ≡ Accepted) × (entry_at left ≡ found)
-      go Accepted q = (refl, cc)
-      go (Refused x) q = zero_not_one (cc)
+      go : (v : Verdict) → answered v (entry_at left) ≡ Ok found → (v ≡ Ok tt) × (entry_at left ≡ found)
+      go (Ok tt) q = (refl, cc)
+      go (Err x) q = zero_not_one (cc)
 
-  pub read_stage : {r : Record} → read_record left ≡ read.Entry (entry.Stage r) → StageRead left r
+  pub read_stage : {r : Record} → read_record left ≡ Ok (entry.Stage r) → StageRead left r
   unfolding entry_at
   read_stage {r} h = go (of_note (kind_at left)) refl (read_entry h).1
     where
@@ -50,7 +49,7 @@ module _ (left : List ℕ) where
       go false k e = record { accepted = (read_entry h).0; stage = k; is = cc }
       go true k e = zero_not_one (cc)
 
-  pub read_note : {n : ℕ} → read_record left ≡ read.Entry (entry.Note n) → NoteRead left n
+  pub read_note : {n : ℕ} → read_record left ≡ Ok (entry.Note n) → NoteRead left n
   unfolding entry_at
   read_note {n} h = go (of_note (kind_at left)) refl (read_entry h).1
     where
@@ -58,13 +57,13 @@ module _ (left : List ℕ) where
       go false k e = zero_not_one (cc)
       go true k e = record { accepted = (read_entry h).0; note = k; length_is = cc }
 
-  pub read_refused : {x : Error} → read_record left ≡ read.Refused x → record_verdict left ≡ Refused x
+  pub read_refused : {x : Error} → read_record left ≡ Err x → record_verdict left ≡ Err x
   unfolding read_record
   read_refused {x} h = go (record_verdict left) h
     where
-      go : (v : Verdict) → answered v (entry_at left) ≡ read.Refused x → v ≡ Refused x
-      go Accepted e = zero_not_one (cc)
-      go (Refused y) e = cc
+      go : (v : Verdict) → answered v (entry_at left) ≡ Err x → v ≡ Err x
+      go (Ok tt) e = zero_not_one (cc)
+      go (Err y) e = cc
 
 -- the rate that leaves a stage is within its limit
 pub rate_after : (f : PcmFormat) (r : Record) → rate_allowed f.rate ≡ true → settings_allowed r ≡ true → rate_allowed (format_after f (stage_kind_of f r)).rate ≡ true

@@ -1,4 +1,5 @@
 -- The invariant of opening: the stages so far, and what is left to open. Assumes nothing.
+use Rattle.std.specs.Prelude.{Ok, Err}
 use mathlib.Core.Path.{◌≡◌, refl, sym, ap, ap₂, ◌∙◌}
 use mathlib.Core.Bool.{true, false}
 use mathlib.Core.List.{List, [], ◌∷◌, ◌++◌, append_assoc, append-nil}
@@ -9,19 +10,16 @@ use lib.Seq.{drop-drop, set_at}
 use Rattle.pcm.specs.declared.PcmFormat.{PcmFormat}
 use Rattle.pcm.specs.declared.Error.{Error}
 use Rattle.pcm.specs.declared.Error.TheVariants.{InvalidFormat}
-use Rattle.pcm.specs.declared.Verdict.TheVariants.{Accepted, Refused}
 use Rattle.pcm.specs.Formats.{rate_allowed, format_allowed, channels_allowed}
 use Rattle.stage.specs.declared.StageKind.{StageKind}
 use Rattle.stage.specs.declared.Stage.{Stage}
 use Rattle.stage.specs.Stages.{stage_as_opened, format_after}
 use Rattle.pcm.specs.laws.Tests.{both}
 use Rattle.recipe.specs.declared.Record.{Record}
-use Rattle.recipe.specs.declared.RecordAnswer.TheVariants as read
 use Rattle.recipe.specs.declared.Entry.TheVariants as entry
 use Rattle.recipe.specs.Records.{length_at, record_bytes, record_at, read_record}
 use Rattle.recipe.specs.laws.Records.{Whole, whole_record, whole_stage, after_next}
 use Rattle.recipe.specs.laws.RoundTrip.{size_read}
-use Rattle.opening.specs.declared.StageAnswer.TheVariants as answer
 use Rattle.pipeline.specs.Opening.{Stages, opened, refused, front, open_stages, chain_of, open_call, unused_stage}
 use Rattle.opening.specs.Opening.{stage_answer, stage_verdict, stage_kind_of}
 use Rattle.pipeline.proofs.OpeningLaws.{StageRead, read_stage, NoteRead, read_note, read_refused, rate_after}
@@ -74,11 +72,11 @@ module _ {f : PcmFormat} {bytes : List ℕ} {stages : List Stage} {reaching : Pc
 
   module _ (h : at < length bytes) where
     -- the next record's bytes are refused
-    pub opens_short : {x : Error} → read_record (drop at bytes) ≡ read.Refused x → open_stages 8 f bytes ≡ refused x
+    pub opens_short : {x : Error} → read_record (drop at bytes) ≡ Err x → open_stages 8 f bytes ≡ refused x
     opens_short e = o.is ∙ ap (joined o.done) (open_short reaching (8 - count) (drop at bytes) (bytes_left h) (read_refused (drop at bytes) e))
 
     -- the next record is a note
-    module _ {n : ℕ} (e : read_record (drop at bytes) ≡ read.Entry (entry.Note n)) where
+    module _ {n : ℕ} (e : read_record (drop at bytes) ≡ Ok (entry.Note n)) where
       noted : NoteRead (drop at bytes) n
       noted = read_note (drop at bytes) e
 
@@ -105,7 +103,7 @@ module _ {f : PcmFormat} {bytes : List ℕ} {stages : List Stage} {reaching : Pc
       }
 
     -- the next record is a stage's
-    module _ {r : Record} (e : read_record (drop at bytes) ≡ read.Entry (entry.Stage r)) where
+    module _ {r : Record} (e : read_record (drop at bytes) ≡ Ok (entry.Stage r)) where
       found : StageRead (drop at bytes) r
       found = read_stage (drop at bytes) e
 
@@ -119,11 +117,11 @@ module _ {f : PcmFormat} {bytes : List ℕ} {stages : List Stage} {reaching : Pc
       opens_size = omega (arith, size_is, whole.there, length-drop at bytes)
 
       -- its stage is refused
-      pub opens_unfit : {x : Error} → stage_answer (8 - count) reaching r ≡ answer.Refused x → open_stages 8 f bytes ≡ refused x
+      pub opens_unfit : {x : Error} → stage_answer (8 - count) reaching r ≡ Err x → open_stages 8 f bytes ≡ refused x
       opens_unfit q = o.is ∙ ap (joined o.done) (open_unfit reaching (8 - count) (drop at bytes) (bytes_left h) found.accepted found.stage (rw found.is (stage_refused (8 - count) reaching r q)))
 
       -- its stage is taken
-      module _ {k : StageKind} (q : stage_answer (8 - count) reaching r ≡ answer.Stage k) where
+      module _ {k : StageKind} (q : stage_answer (8 - count) reaching r ≡ Ok k) where
         pub opens_room : count < 8
         opens_room = let m = (stage_fits (8 - count) reaching r (stage_accepted (8 - count) reaching r q).0).0 in omega arith
 
@@ -148,7 +146,7 @@ module _ {f : PcmFormat} {bytes : List ℕ} {stages : List Stage} {reaching : Pc
 
         is_next : open_stages (8 - count) reaching (drop at bytes) ≡ front (stage_as_opened k) (open_stages (8 - (count + 1)) (format_after reaching k) (drop (at + length (record_bytes r)) bytes))
         is_next =
-            let v : stage_verdict (8 - count) reaching (record_at (drop at bytes)) ≡ Accepted = rw found.is (stage_accepted (8 - count) reaching r q).0 in
+            let v : stage_verdict (8 - count) reaching (record_at (drop at bytes)) ≡ Ok tt = rw found.is (stage_accepted (8 - count) reaching r q).0 in
             let d : after_next (drop at bytes) ≡ drop (at + length (record_bytes r)) bytes = drop-drop (2 + length_at (drop at bytes)) at bytes ∙ ap (λ (n : ℕ). drop (at + n) bytes) (sym size_is) in
             open_next reaching (8 - count) (drop at bytes) (bytes_left h) found.accepted found.stage v
             ∙ ap (λ (x : StageKind). front (stage_as_opened x) (open_stages (8 - count - 1) (format_after reaching x) (after_next (drop at bytes)))) kind_is
@@ -169,16 +167,16 @@ module _ {f : PcmFormat} {bytes : List ℕ} {stages : List Stage} {reaching : Pc
 
 -- ---- the call's answer
 module _ (f : PcmFormat) (bytes : List ℕ) where
-  pub call_format : format_allowed f ≡ false → open_call f bytes ≡ record { verdict = Refused InvalidFormat; chain = chain_of f [] }
+  pub call_format : format_allowed f ≡ false → open_call f bytes ≡ record { verdict = Err InvalidFormat; chain = chain_of f [] }
   unfolding open_call
   call_format h = rw h
 
   module _ (h : format_allowed f ≡ true) where
-    pub call_refused : {x : Error} → open_stages 8 f bytes ≡ refused x → open_call f bytes ≡ record { verdict = Refused x; chain = chain_of f [] }
+    pub call_refused : {x : Error} → open_stages 8 f bytes ≡ refused x → open_call f bytes ≡ record { verdict = Err x; chain = chain_of f [] }
     unfolding open_call
     call_refused e = rw (h, e)
 
-    pub call_opened : {ss : List Stage} → open_stages 8 f bytes ≡ opened ss → open_call f bytes ≡ record { verdict = Accepted; chain = chain_of f ss }
+    pub call_opened : {ss : List Stage} → open_stages 8 f bytes ≡ opened ss → open_call f bytes ≡ record { verdict = Ok tt; chain = chain_of f ss }
     unfolding open_call
     call_opened e = rw (h, e)
 

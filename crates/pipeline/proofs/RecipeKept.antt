@@ -1,9 +1,8 @@
 -- A chain that was opened keeps its recipe, without the notes. Assumes nothing.
-use Rattle.std.specs.Prelude.{◌≡◌, List, ℕ}
+use Rattle.std.specs.Prelude.{◌≡◌, List, ℕ, Ok}
 use Rattle.std.proofs.Math.Path.{ap}
 use Rattle.std.proofs.Common.{◌∙◌}
 use Rattle.pcm.specs.declared.PcmFormat.{PcmFormat}
-use Rattle.pcm.specs.declared.Verdict.TheVariants.{Accepted}
 use Rattle.pcm.specs.Samples.{Bytes}
 use Rattle.recipe.specs.Records.{records}
 use Rattle.recipe.specs.Notes.{without_notes}
@@ -14,7 +13,7 @@ use Rattle.pipeline.specs.Opening.{open_stages, open_call}
 use Rattle.writing.specs.WritingBack.{recipe_of}
 use Rattle.pipeline.proofs.laws.RoundTrip.{opened_recipe, opened_stages, opened_from}
 
-module _ (f : PcmFormat) (bytes : List ℕ) (c : Pipeline) (e : open_call f bytes ≡ record { verdict = Accepted; chain = c }) where
+module _ (f : PcmFormat) (bytes : List ℕ) (c : Pipeline) (e : open_call f bytes ≡ record { verdict = Ok tt; chain = c }) where
   stages_are : stages_of c ≡ (opened_from f bytes c e).stages
   stages_are = let o = opened_from f bytes c e in ap stages_of o.chain_is ∙ opened_stages f o.stages
 

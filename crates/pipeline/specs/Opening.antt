@@ -1,12 +1,10 @@
 -- Opening a chain: the questions in their order, from a format and bytes to a chain or a refusal (document 01, 'The recipe' and 'The questions'; document 02, Q-4). Definitions only.
-use Rattle.std.specs.Prelude.{cond, List, [], ◌∷◌, ◌++◌, ℕ, ◌-◌, length, replicate}
+use Rattle.std.specs.Prelude.{cond, List, [], ◌∷◌, ◌++◌, ℕ, ◌-◌, length, replicate, Ok, Err}
 use Rattle.pcm.specs.declared.PcmFormat.{PcmFormat}
 use Rattle.pcm.specs.declared.Error.{Error}
 use Rattle.pcm.specs.declared.Error.TheVariants.{InvalidFormat}
-use Rattle.pcm.specs.declared.Verdict.{Verdict}
-use Rattle.pcm.specs.declared.Verdict.TheVariants as verdict
 use Rattle.pcm.specs.Formats.{format_allowed}
-use Rattle.pcm.specs.Refusals.{ask}
+use Rattle.pcm.specs.Refusals.{ask, Verdict}
 use Rattle.stage.specs.declared.StageKind.{StageKind}
 use Rattle.stage.specs.declared.StageKind.TheVariants as kind
 use Rattle.stage.specs.declared.Stage.{Stage}
@@ -23,8 +21,8 @@ pub data Stages : Type 0 where
 
 -- a question answered no ends the opening with its refusal
 abbrev pub asked : Verdict → Stages → Stages
-asked verdict.Accepted more = more
-asked (verdict.Refused e) more = refused e
+asked (Ok tt) more = more
+asked (Err e) more = refused e
 
 abbrev pub front : Stage → Stages → Stages
 front s (opened ss) = opened (s ∷ ss)
@@ -57,9 +55,9 @@ unfoldable pub chain_of : PcmFormat → List Stage → Pipeline
 chain_of f ss = record { stages = ss ++ replicate (8 - length ss) unused_stage; count = length ss; format = f; blocks = 0; empty_blocks = 0 }
 
 abbrev pub opened_of : PcmFormat → Stages → Opened
-opened_of f (opened ss) = record { verdict = verdict.Accepted; chain = chain_of f ss }
-opened_of f (refused e) = record { verdict = verdict.Refused e; chain = chain_of f [] }
+opened_of f (opened ss) = record { verdict = Ok tt; chain = chain_of f ss }
+opened_of f (refused e) = record { verdict = Err e; chain = chain_of f [] }
 
 -- is the rate 1 to 384,000 and the channel count 1 or 2? else 1. Then the records, at most eight of them stages
 unfoldable pub open_call : PcmFormat → List ℕ → Opened
-open_call f bytes = opened_of f (asked (ask (format_allowed f) InvalidFormat verdict.Accepted) (open_stages 8 f bytes))
+open_call f bytes = opened_of f (asked (ask (format_allowed f) InvalidFormat (Ok tt)) (open_stages 8 f bytes))

@@ -1,14 +1,11 @@
 -- Writing a chain's recipe: its questions, what is written, and the paper's number and values (document 01, 'The recipe' and 'The questions'). Definitions only.
-use Rattle.std.specs.Prelude.{List, ℕ, leb, length, take}
+use Rattle.pcm.specs.declared.Error.{Error}
+use Rattle.std.specs.Prelude.{List, ℕ, leb, length, take, Ok, Err, Result}
 use Rattle.pcm.specs.declared.Error.TheVariants.{InvalidFormat}
-use Rattle.pcm.specs.declared.Verdict.{Verdict}
-use Rattle.pcm.specs.declared.Verdict.TheVariants as verdict
-use Rattle.pcm.specs.Refusals.{ask, refusal, room_verdict}
+use Rattle.pcm.specs.Refusals.{ask, refusal, room_verdict, Verdict}
 use Rattle.pcm.specs.Frames.{written}
 use Rattle.stage.specs.declared.Stage.{Stage}
 use Rattle.pipeline.specs.declared.Pipeline.{Pipeline}
-use Rattle.pipeline.specs.declared.WriteAnswer.{WriteAnswer}
-use Rattle.pipeline.specs.declared.WriteAnswer.TheVariants as answer
 use Rattle.pipeline.specs.declared.WriteTold.{WriteTold}
 use Rattle.writing.specs.WritingBack.{recipe_of}
 
@@ -18,7 +15,7 @@ stages_of c = take c.count c.stages
 
 -- the answer, and the buffer afterwards
 pub record WriteOutcome : Type 0 where
-  pub answer : WriteAnswer
+  pub answer : Result ℕ Error
   pub out : List ℕ
 
 -- is it a chain of at most eight stages? else 1. Is there room? else 3, with needed the bytes to be written
@@ -29,17 +26,17 @@ write_verdict c room =
 
 -- bytes past those written stay, and a refusal alters nothing
 abbrev pub write_outcome : Verdict → List ℕ → List ℕ → WriteOutcome
-write_outcome verdict.Accepted bytes out = record { answer = answer.Written (length bytes); out = written bytes out }
-write_outcome (verdict.Refused e) bytes out = record { answer = answer.Refused e; out = out }
+write_outcome (Ok tt) bytes out = record { answer = Ok (length bytes); out = written bytes out }
+write_outcome (Err e) bytes out = record { answer = Err e; out = out }
 
 unfoldable pub write_call : Pipeline → List ℕ → WriteOutcome
 write_call c out = write_outcome (write_verdict c (length out)) (recipe_of (stages_of c)) out
 
 -- ---- the paper's number, needed and length: of each case, and of a call whose questions came to a verdict
-abbrev pub write_told : WriteAnswer → WriteTold
-write_told (answer.Written n) = record { number = 0; needed = 0; len = n }
-write_told (answer.Refused e) = record { number = (refusal e).number; needed = (refusal e).needed; len = 0 }
+abbrev pub write_told : (Result ℕ Error) → WriteTold
+write_told (Ok n) = record { number = 0; needed = 0; len = n }
+write_told (Err e) = record { number = (refusal e).number; needed = (refusal e).needed; len = 0 }
 
 abbrev pub told_of_writing : Verdict → ℕ → WriteTold
-told_of_writing verdict.Accepted n = record { number = 0; needed = 0; len = n }
-told_of_writing (verdict.Refused e) n = record { number = (refusal e).number; needed = (refusal e).needed; len = 0 }
+told_of_writing (Ok tt) n = record { number = 0; needed = 0; len = n }
+told_of_writing (Err e) n = record { number = (refusal e).number; needed = (refusal e).needed; len = 0 }

@@ -8,7 +8,7 @@ ghost use Rattle.pipeline.specs.WritingBack.{stages_of, write_verdict, write_cal
 ghost use Rattle.pipeline.specs.Reset.{output_format, reset_call};
 
 use opening::StageAnswer;
-use pcm::{Error, PcmFormat, Verdict};
+use pcm::{Error, PcmFormat};
 use recipe::{Entry, Record, RecordAnswer};
 use stage::{Stage, StageKind};
 
@@ -25,7 +25,7 @@ pub struct Pipeline {
 // What opening came to, and the chain; a chain of no stages where it was refused.
 #[derive(Clone, Copy)]
 pub struct Opened {
-    pub verdict: Verdict,
+    pub verdict: Result<(), Error>,
     pub chain: Pipeline,
 }
 
@@ -74,7 +74,7 @@ fn no_stages() -> [Stage; 8]
 }
 
 // The answer of an opening that was refused.
-fn unopened(format: PcmFormat, verdict: Verdict) -> Opened
+fn unopened(format: PcmFormat, verdict: Result<(), Error>) -> Opened
     ensures { result ≡ record { verdict = verdict; chain = chain_of format [] } }
 {
     let stages = no_stages();
@@ -94,7 +94,7 @@ impl Pipeline {
         ensures { result ≡ open_call format recipe.now }
     {
         if !format.allowed() {
-            return unopened(format, Verdict::Refused(Error::InvalidFormat));
+            return unopened(format, Err(Error::InvalidFormat));
         }
         let mut stages = no_stages();
         let mut reaching = format;
@@ -130,7 +130,7 @@ impl Pipeline {
             empty_blocks: 0,
         };
         Opened {
-            verdict: Verdict::Accepted,
+            verdict: Ok(()),
             chain,
         }
     }
@@ -147,7 +147,7 @@ impl Pipeline {
         let stages = self.stages;
         let needed = writing::recipe_size(stages, count);
         let room = pcm::require_room(out, needed);
-        if let Verdict::Refused(e) = room {
+        if let Err(e) = room {
             return WriteAnswer::Refused(e);
         }
         writing::write_stages(stages, count, out);

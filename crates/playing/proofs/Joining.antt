@@ -1,4 +1,6 @@
 -- A call's output joined on to what is gathered. Assumes nothing.
+use Rattle.std.specs.Prelude.{Ok, Err, Result}
+use Rattle.pcm.specs.Refusals.{Verdict}
 use mathlib.Core.Path.{◌≡◌, refl, sym, ap, ◌∙◌}
 use mathlib.Core.Bool.{Bool, true, false, cond}
 use mathlib.Core.List.{List, [], ◌++◌, append-nil}
@@ -11,8 +13,6 @@ use lib.Dec.{leb}
 use lib.ListN.{length, take, drop, length-append, length-drop, drop_of_length-le}
 use Rattle.pcm.specs.declared.Error.{Error}
 use Rattle.pcm.specs.declared.Error.TheVariants.{TooLong}
-use Rattle.pcm.specs.declared.Verdict.{Verdict}
-use Rattle.pcm.specs.declared.Verdict.TheVariants.{Accepted, Refused}
 use Rattle.pcm.specs.Frames.{written}
 use Rattle.pcm.specs.laws.Frames.{length_written}
 use Rattle.pcm.specs.laws.Written.{written_part}
@@ -25,7 +25,6 @@ use Rattle.answers.specs.Answers.{front_of, output_of}
 use Rattle.block.specs.BlockCall.{Result}
 use Rattle.finish.specs.FinishCall.{FinishResult}
 use Rattle.stream.specs.Calls.{output_by, call_output, finish_output_by, finish_output}
-use Rattle.playing.specs.declared.Gathered.TheVariants as gathered
 use Rattle.playing.specs.Playing.{Playing, Played, going, stopped, gathering, verdict_by, finish_verdict_by}
 use Rattle.playing.specs.Steps.{block_piece, finish_piece, Joined, joined_by, joined}
 
@@ -91,13 +90,13 @@ playing c a b sound = record { chain = c; a = a; b = b; sound = sound }
 
 -- what a call's output leaves: it is joined on, or what is gathered stays and the run is stopped
 pub data After (got out₀ output : List ℕ) (c : Pipeline) (a b : List ℕ) (played : Played) (j : Joined) : Type 0 where
-  onward : played ≡ going (playing c a b (got ++ output)) → (m : ℕ) → j.gathered ≡ gathered.Bytes m → Holds (got ++ output) out₀ m j.out → After got out₀ output c a b played j
-  ended : (e : Error) → played ≡ stopped e (playing c a b got) → j.gathered ≡ gathered.Refused e → j.out ≡ written got out₀ → After got out₀ output c a b played j
+  onward : played ≡ going (playing c a b (got ++ output)) → (m : ℕ) → j.gathered ≡ Ok m → Holds (got ++ output) out₀ m j.out → After got out₀ output c a b played j
+  ended : (e : Error) → played ≡ stopped e (playing c a b got) → j.gathered ≡ Err e → j.out ≡ written got out₀ → After got out₀ output c a b played j
 
 module _ (output : List ℕ) {got out₀ : List ℕ} {n : ℕ} {out : List ℕ} (h : Holds got out₀ n out) (c : Pipeline) (a b : List ℕ) where
   appended_after : (t : Bool) → leb (length got + length output) (length out₀) ≡ t
       → After got out₀ output c a b (cond t (going (playing c a b (got ++ output))) (stopped TooLong (playing c a b got)))
-      (cond t (record { gathered = gathered.Bytes (n + length output); out = take n out ++ written output (drop n out) }) (record { gathered = gathered.Refused TooLong; out = out }))
+      (cond t (record { gathered = Ok (n + length output); out = take n out ++ written output (drop n out) }) (record { gathered = Err TooLong; out = out }))
   appended_after true e =
       let l : length (got ++ output) ≡ length got + length output = length-append got output in
       onward refl (n + length output) refl (record {
@@ -111,5 +110,5 @@ module _ (output : List ℕ) {got out₀ : List ℕ} {n : ℕ} {out : List ℕ} 
   same_test = rw (h.many, holds-length h)
 
   pub joins : (v : Verdict) → After got out₀ output c a b (gathering (length out₀) v output (playing c a b got)) (joined_by v n output out)
-  joins (Refused e) = ended e refl refl h.placed
-  joins Accepted = rw same_test (appended_after (leb (length got + length output) (length out₀)) refl)
+  joins (Err e) = ended e refl refl h.placed
+  joins (Ok tt) = rw same_test (appended_after (leb (length got + length output) (length out₀)) refl)

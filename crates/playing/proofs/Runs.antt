@@ -1,4 +1,5 @@
 -- The invariant of a run: what came out so far, and what is left to play. Assumes nothing.
+use Rattle.std.specs.Prelude.{Ok, Err, Result}
 use mathlib.Core.Path.{◌≡◌, refl, sym, ap, ap₂, ◌∙◌}
 use mathlib.Core.List.{List, [], ◌∷◌, ◌++◌}
 use Prim.Native.Nat.{ℕ, suc, ◌-◌, ◌≤◌}
@@ -11,7 +12,6 @@ use Rattle.pipeline.specs.declared.Pipeline.{Pipeline}
 use Rattle.block.specs.BlockCall.{Result, block_call}
 use Rattle.finish.specs.FinishCall.{FinishResult, finish_call}
 use Rattle.stream.specs.Calls.{call_output, finish_output}
-use Rattle.playing.specs.declared.Gathered.TheVariants as gathered
 use Rattle.playing.specs.Playing.{Played, unless_stopped, verdict_by, block_gathered, finish_verdict_by, finish_gathered, play_blocks, left}
 use Rattle.playing.specs.Steps.{block_end, block_piece, finish_piece, Joined, joined}
 use Rattle.playing.specs.laws.Blocks.{block_within, block_is, rest_is}
@@ -30,13 +30,13 @@ runs_start c f size count sound a b out =
     let e : count - 0 ≡ count = omega arith in
     rw e (record { got = []; holds = record { many = refl; fits = omega arith; placed = refl }; within = omega arith; is = refl })
 
-never : {n : ℕ} {e : Error} → gathered.Bytes n ≡ gathered.Refused e → ⊥
+never : {n : ℕ} {e : Error} → Ok n ≡ Err e → ⊥
 never h = let z : ◌≡◌ {A = ℕ} 0 1 = cc in omega arith
 
-same_bytes : {n m : ℕ} → gathered.Bytes n ≡ gathered.Bytes m → n ≡ m
+same_bytes : {n m : ℕ} → Ok n ≡ Ok m → n ≡ m
 same_bytes h = cc
 
-same_error : {e d : Error} → gathered.Refused e ≡ gathered.Refused d → e ≡ d
+same_error : {e d : Error} → Err e ≡ Err d → e ≡ d
 same_error h = cc
 
 module _ {c : Pipeline} {f : PcmFormat} {size count : ℕ} {sound a₀ b₀ out₀ : List ℕ} {moved : Pipeline} {n at more : ℕ} {a b out : List ℕ} (o : Runs c f size count sound a₀ b₀ out₀ moved n at more a b out) where
@@ -55,14 +55,14 @@ module _ {c : Pipeline} {f : PcmFormat} {size count : ℕ} {sound a₀ b₀ out�
     after : After o.got out₀ (call_output r) r.chain r.a r.b (block_gathered (length out₀) r o.got) j
     after = rw (q ∙ block_joined r n out) (joins (call_output r) o.holds r.chain r.a r.b (verdict_by r.answer))
 
-    pub runs_stopped : (x : Error) → j.gathered ≡ gathered.Refused x → record { gathered = j.gathered; a = r.a; b = r.b; out = j.out } ≡ left out₀ whole
+    pub runs_stopped : (x : Error) → j.gathered ≡ Err x → record { gathered = j.gathered; a = r.a; b = r.b; out = j.out } ≡ left out₀ whole
     runs_stopped x g = by after
       where
         by : After o.got out₀ (call_output r) r.chain r.a r.b (block_gathered (length out₀) r o.got) j → record { gathered = j.gathered; a = r.a; b = r.b; out = j.out } ≡ left out₀ whole
         by (onward p m i l) = absurd (never (sym i ∙ g))
         by (ended d p i l) = rw (step, p, i, l)
 
-    pub runs_onward : (m : ℕ) → j.gathered ≡ gathered.Bytes m → Runs c f size count sound a₀ b₀ out₀ r.chain m (block_end at size (length sound)) later r.a r.b j.out
+    pub runs_onward : (m : ℕ) → j.gathered ≡ Ok m → Runs c f size count sound a₀ b₀ out₀ r.chain m (block_end at size (length sound)) later r.a r.b j.out
     runs_onward m g = by after
       where
         by : After o.got out₀ (call_output r) r.chain r.a r.b (block_gathered (length out₀) r o.got) j → Runs c f size count sound a₀ b₀ out₀ r.chain m (block_end at size (length sound)) later r.a r.b j.out

@@ -1,5 +1,7 @@
 -- A whole sound through a chain: by blocks of 1,024 frames, the last shorter, ended by the finish call, what comes out gathered (document 02, Q-7).
 -- Definitions only.
+use Rattle.std.specs.Prelude.{Ok, Err, Result}
+use Rattle.pcm.specs.Refusals.{Verdict}
 use mathlib.Core.Bool.{cond}
 use mathlib.Core.List.{List, [], ◌∷◌, ◌++◌}
 use Prim.Native.Nat.{ℕ, ◌+◌, ◌*◌}
@@ -8,8 +10,6 @@ use lib.ListN.{length}
 use Rattle.pcm.specs.declared.PcmFormat.{PcmFormat}
 use Rattle.pcm.specs.declared.Error.{Error}
 use Rattle.pcm.specs.declared.Error.TheVariants.{TooLong}
-use Rattle.pcm.specs.declared.Verdict.{Verdict}
-use Rattle.pcm.specs.declared.Verdict.TheVariants.{Accepted, Refused}
 use Rattle.pcm.specs.Formats.{frame_bytes}
 use Rattle.pcm.specs.Frames.{cut, written}
 use Rattle.rates.specs.Counting.{ceil_div}
@@ -21,8 +21,6 @@ use Rattle.answers.specs.declared.FinishAnswer.TheVariants as finished
 use Rattle.block.specs.BlockCall.{Result, block_call}
 use Rattle.finish.specs.FinishCall.{FinishResult, finish_call}
 use Rattle.stream.specs.Calls.{call_output, finish_output}
-use Rattle.playing.specs.declared.Gathered.{Gathered}
-use Rattle.playing.specs.declared.Gathered.TheVariants as gathered
 
 -- ---- blocks of 1,024 frames, the last shorter; sound of no bytes makes none
 abbrev pub block_bytes : PcmFormat → ℕ
@@ -50,17 +48,17 @@ unless_stopped (stopped e p) more = stopped e p
 
 -- after a call of this verdict and this output, where `limit` bytes may be gathered: a refusal ends it, and so does output that passes the limit, with 10
 abbrev pub gathering : ℕ → Verdict → List ℕ → Playing → Played
-gathering limit (Refused e) output p = stopped e p
-gathering limit Accepted output p =
+gathering limit (Err e) output p = stopped e p
+gathering limit (Ok tt) output p =
     cond (leb (length p.sound + length output) limit)
     (going (record { chain = p.chain; a = p.a; b = p.b; sound = p.sound ++ output }))
     (stopped TooLong p)
 
 -- ---- a block
 abbrev pub verdict_by : Answer → Verdict
-verdict_by (answer.Output format timestamp side len clipped) = Accepted
-verdict_by (answer.NothingYet clipped) = Accepted
-verdict_by (answer.Refused e) = Refused e
+verdict_by (answer.Output format timestamp side len clipped) = Ok tt
+verdict_by (answer.NothingYet clipped) = Ok tt
+verdict_by (answer.Refused e) = Err e
 
 abbrev pub block_gathered : ℕ → Result → List ℕ → Played
 block_gathered limit r sound = gathering limit (verdict_by r.answer) (call_output r) (record { chain = r.chain; a = r.a; b = r.b; sound = sound })
@@ -70,9 +68,9 @@ after_block limit f block p = block_gathered limit (block_call p.chain f 0 block
 
 -- ---- the finish
 abbrev pub finish_verdict_by : FinishAnswer → Verdict
-finish_verdict_by (finished.Output format side len clipped) = Accepted
-finish_verdict_by (finished.NothingYet clipped) = Accepted
-finish_verdict_by (finished.Refused e) = Refused e
+finish_verdict_by (finished.Output format side len clipped) = Ok tt
+finish_verdict_by (finished.NothingYet clipped) = Ok tt
+finish_verdict_by (finished.Refused e) = Err e
 
 abbrev pub finish_gathered : ℕ → FinishResult → List ℕ → Played
 finish_gathered limit r sound = gathering limit (finish_verdict_by r.answer) (finish_output r) (record { chain = r.chain; a = r.a; b = r.b; sound = sound })
@@ -87,14 +85,14 @@ play_blocks limit f (block ∷ more) p = unless_stopped (after_block limit f blo
 
 -- what is left behind: the answer, the halves, and what came out at the front of out
 pub record PlayOutcome : Type 0 where
-  pub gathered : Gathered
+  pub gathered : Result ℕ Error
   pub a : List ℕ
   pub b : List ℕ
   pub out : List ℕ
 
 abbrev pub left : List ℕ → Played → PlayOutcome
-left out (going p) = record { gathered = gathered.Bytes (length p.sound); a = p.a; b = p.b; out = written p.sound out }
-left out (stopped e p) = record { gathered = gathered.Refused e; a = p.a; b = p.b; out = written p.sound out }
+left out (going p) = record { gathered = Ok (length p.sound); a = p.a; b = p.b; out = written p.sound out }
+left out (stopped e p) = record { gathered = Err e; a = p.a; b = p.b; out = written p.sound out }
 
 -- the sound through the chain c; as much is gathered as out holds
 unfoldable pub play_call : Pipeline → PcmFormat → List ℕ → List ℕ → List ℕ → List ℕ → PlayOutcome

@@ -1,12 +1,13 @@
 -- The steps of the code: where a block ends, what a call answered, and its output behind what is gathered. Definitions only.
+use Rattle.pcm.specs.declared.Error.{Error}
+use Rattle.std.specs.Prelude.{Ok, Err, Result}
+use Rattle.pcm.specs.Refusals.{Verdict}
 use mathlib.Core.Bool.{cond}
 use mathlib.Core.List.{List, ◌++◌}
 use Prim.Native.Nat.{ℕ, ◌+◌, ◌-◌}
 use lib.Dec.{leb, ltb}
 use lib.ListN.{length, take, drop}
 use Rattle.pcm.specs.declared.Error.TheVariants.{TooLong}
-use Rattle.pcm.specs.declared.Verdict.{Verdict}
-use Rattle.pcm.specs.declared.Verdict.TheVariants.{Accepted, Refused}
 use Rattle.pcm.specs.Frames.{written}
 use Rattle.answers.specs.declared.Half.TheVariants as half
 use Rattle.answers.specs.declared.Answer.{Answer}
@@ -14,8 +15,6 @@ use Rattle.answers.specs.declared.Answer.TheVariants as answer
 use Rattle.answers.specs.declared.FinishAnswer.{FinishAnswer}
 use Rattle.answers.specs.declared.FinishAnswer.TheVariants as finished
 use Rattle.answers.specs.Answers.{output_of}
-use Rattle.playing.specs.declared.Gathered.{Gathered}
-use Rattle.playing.specs.declared.Gathered.TheVariants as gathered
 use Rattle.playing.specs.declared.Piece.{Piece}
 
 -- where the block that starts at `at` ends
@@ -27,29 +26,29 @@ abbrev pub silent_piece : Verdict → Piece
 silent_piece v = record { verdict = v; half = half.A; len = 0 }
 
 abbrev pub block_piece : Answer → Piece
-block_piece (answer.Output format timestamp side len clipped) = record { verdict = Accepted; half = side; len = len }
-block_piece (answer.NothingYet clipped) = silent_piece Accepted
-block_piece (answer.Refused e) = silent_piece (Refused e)
+block_piece (answer.Output format timestamp side len clipped) = record { verdict = Ok tt; half = side; len = len }
+block_piece (answer.NothingYet clipped) = silent_piece (Ok tt)
+block_piece (answer.Refused e) = silent_piece (Err e)
 
 abbrev pub finish_piece : FinishAnswer → Piece
-finish_piece (finished.Output format side len clipped) = record { verdict = Accepted; half = side; len = len }
-finish_piece (finished.NothingYet clipped) = silent_piece Accepted
-finish_piece (finished.Refused e) = silent_piece (Refused e)
+finish_piece (finished.Output format side len clipped) = record { verdict = Ok tt; half = side; len = len }
+finish_piece (finished.NothingYet clipped) = silent_piece (Ok tt)
+finish_piece (finished.Refused e) = silent_piece (Err e)
 
 -- the output behind the first n bytes of out
 pub record Joined : Type 0 where
-  pub gathered : Gathered
+  pub gathered : Result ℕ Error
   pub out : List ℕ
 
 abbrev pub appended : ℕ → List ℕ → List ℕ → Joined
 appended n output out =
     cond (leb (n + length output) (length out))
-    (record { gathered = gathered.Bytes (n + length output); out = take n out ++ written output (drop n out) })
-    (record { gathered = gathered.Refused TooLong; out = out })
+    (record { gathered = Ok (n + length output); out = take n out ++ written output (drop n out) })
+    (record { gathered = Err TooLong; out = out })
 
 abbrev pub joined_by : Verdict → ℕ → List ℕ → List ℕ → Joined
-joined_by Accepted n output out = appended n output out
-joined_by (Refused e) n output out = record { gathered = gathered.Refused e; out = out }
+joined_by (Ok tt) n output out = appended n output out
+joined_by (Err e) n output out = record { gathered = Err e; out = out }
 
 unfoldable pub joined : Piece → List ℕ → List ℕ → ℕ → List ℕ → Joined
 joined piece a b n out = joined_by piece.verdict n (output_of piece.half piece.len a b) out

@@ -5,20 +5,19 @@ ghost use mathlib.Core.Path.{◌≡◌};
 ghost use mathlib.Core.Bool.{true};
 ghost use Prim.Native.Nat.{◌≤◌, ◌<◌};
 ghost use lib.ListN.{length};
-ghost use Rattle.pcm.specs.declared.Verdict.TheVariants.{Accepted};
 ghost use Rattle.pcm.specs.Formats.{format_allowed};
 ghost use Rattle.rates.specs.Counting.{ceil_div};
 ghost use Rattle.playing.specs.Playing.{play_call};
 ghost use Rattle.playing.specs.Steps.{block_end, silent_piece, block_piece, finish_piece, joined};
 
 use answers::{Answer, FinishAnswer, Half};
-use pcm::{Error, PcmFormat, Verdict};
+use pcm::{Error, PcmFormat};
 use pipeline::Pipeline;
 
 // What came of a call: its verdict, and where its output stands.
 #[derive(Clone, Copy)]
 pub struct Piece {
-    pub verdict: Verdict,
+    pub verdict: Result<(), Error>,
     pub half: Half,
     pub len: usize,
 }
@@ -59,8 +58,8 @@ fn block_piece(answer: Answer) -> Piece
             len,
             clipped: _,
         } => sounding(half, len),
-        Answer::NothingYet { clipped: _ } => silent(Verdict::Accepted),
-        Answer::Refused(e) => silent(Verdict::Refused(e)),
+        Answer::NothingYet { clipped: _ } => silent(Ok(())),
+        Answer::Refused(e) => silent(Err(e)),
     }
 }
 
@@ -75,24 +74,24 @@ fn finish_piece(answer: FinishAnswer) -> Piece
             len: last,
             clipped: _,
         } => sounding(half, last),
-        FinishAnswer::NothingYet { clipped: _ } => silent(Verdict::Accepted),
-        FinishAnswer::Refused(e) => silent(Verdict::Refused(e)),
+        FinishAnswer::NothingYet { clipped: _ } => silent(Ok(())),
+        FinishAnswer::Refused(e) => silent(Err(e)),
     }
 }
 
 // A call with output.
 fn sounding(half: Half, len: usize) -> Piece
-    ensures { result ≡ record { verdict = Accepted; half = half; len = len } }
+    ensures { result ≡ record { verdict = (Ok tt); half = half; len = len } }
 {
     Piece {
-        verdict: Verdict::Accepted,
+        verdict: Ok(()),
         half,
         len,
     }
 }
 
 // A call without output.
-fn silent(verdict: Verdict) -> Piece
+fn silent(verdict: Result<(), Error>) -> Piece
     ensures { result ≡ silent_piece verdict }
 {
     Piece {
@@ -108,7 +107,7 @@ fn join<'a>(piece: Piece, a: &'a [u8], b: &'a [u8], n: usize, out: &mut [u8]) ->
     ensures { record { gathered = result; out = out.new } ≡ joined piece a.now b.now n out.old }
 {
     let verdict = piece.verdict;
-    if let Verdict::Refused(e) = verdict {
+    if let Err(e) = verdict {
         return Gathered::Refused(e);
     }
     let half = piece.half;

@@ -1,12 +1,10 @@
 -- The questions of a block and of `scratch_bytes` (document 01, 'The questions') and of a finish (document 02, Q-1), as one walk along the
 -- stages finds them. Definitions only.
-use Rattle.std.specs.Prelude.{◌≡◌, Bool, cond, ◌&&◌, true, false, ℕ, ◌*◌, ◌%◌, ◌/◌, ◌≤◌, ◌<◌, eqb, leb, ltb, List, [], ◌∷◌}
+use Rattle.std.specs.Prelude.{◌≡◌, Bool, cond, ◌&&◌, true, false, ℕ, ◌*◌, ◌%◌, ◌/◌, ◌≤◌, ◌<◌, eqb, leb, ltb, List, [], ◌∷◌, Ok, Err}
 use Rattle.pcm.specs.declared.PcmFormat.{PcmFormat}
 use Rattle.pcm.specs.declared.Error.TheVariants.{InvalidFormat, Unsupported, BufferTooSmall, InvalidGeometry, TooLong}
-use Rattle.pcm.specs.declared.Verdict.{Verdict}
-use Rattle.pcm.specs.declared.Verdict.TheVariants.{Accepted, Refused}
 use Rattle.pcm.specs.Formats.{format_allowed}
-use Rattle.pcm.specs.Refusals.{ask, and_then}
+use Rattle.pcm.specs.Refusals.{ask, and_then, Verdict}
 use Rattle.stage.specs.declared.Stage.{Stage}
 use Rattle.stage.specs.Stages.{format_after}
 use Rattle.stage.specs.Rooms.{stage_suits, frames_out, frames_wanted}
@@ -33,12 +31,12 @@ head_legal f count = leb count 8 && format_allowed f
 
 -- Whole frames, at least one? else 4. At most 8,192? else 10
 unfoldable pub size_verdict : PcmFormat → ℕ → Verdict
-size_verdict f size = ask (whole_frames f size) InvalidGeometry (ask (leb (size / (f.channels * 2)) 8192) TooLong Accepted)
+size_verdict f size = ask (whole_frames f size) InvalidGeometry (ask (leb (size / (f.channels * 2)) 8192) TooLong (Ok tt))
 
 -- the frames of a block; none of one whose size is refused
 abbrev pub frames_if : Verdict → ℕ → ℕ
-frames_if Accepted n = n
-frames_if (Refused e) n = 0
+frames_if (Ok tt) n = n
+frames_if (Err e) n = 0
 
 unfoldable pub block_frames : PcmFormat → ℕ → ℕ
 block_frames f size = frames_if (size_verdict f size) (size / (f.channels * 2))
@@ -114,4 +112,4 @@ sized_from f size w = ask w.legal InvalidFormat (size_verdict f size)
 -- then: In the chain's format? else 2. Room? else 3, with needed = twice the room of the first stage short
 unfoldable pub verdict_from : PcmFormat → PcmFormat → ℕ → Walk → Verdict
 verdict_from own format size w =
-    and_then (sized_from own size w) (ask (same_format own format) Unsupported (ask (eqb w.short 0) (BufferTooSmall (2 * w.short)) Accepted))
+    and_then (sized_from own size w) (ask (same_format own format) Unsupported (ask (eqb w.short 0) (BufferTooSmall (2 * w.short)) (Ok tt)))

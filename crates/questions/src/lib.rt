@@ -5,7 +5,7 @@ ghost use Rattle.std.specs.Prelude.{◌≡◌, ◌≤◌, ◌<◌};
 ghost use Rattle.stage.specs.Rooms.{Bounded};
 ghost use Rattle.questions.specs.Walk.{same_format, larger, head_legal, size_verdict, block_frames, due_of, first_short, further, stepped, begun, copy_room, WalkFits, sized_from, verdict_from};
 
-use pcm::{Error, PcmFormat, Verdict};
+use pcm::{Error, PcmFormat};
 use stage::Stage;
 
 // For which the walk asks: a block on the chain as it is, a block on the chain in any state, or a finish.
@@ -54,21 +54,21 @@ fn same_format(f: PcmFormat, g: PcmFormat) -> bool
 }
 
 // The questions of a block's size, in their order.
-fn size_question(format: PcmFormat, size: usize) -> Verdict
+fn size_question(format: PcmFormat, size: usize) -> Result<(), Error>
     requires { 0 < format.channels }
     ensures { result ≡ size_verdict format size }
 {
     let frame = format.frame_bytes();
     if size == 0 {
-        return Verdict::Refused(Error::InvalidGeometry);
+        return Err(Error::InvalidGeometry);
     }
     if size % frame != 0 {
-        return Verdict::Refused(Error::InvalidGeometry);
+        return Err(Error::InvalidGeometry);
     }
     if size / frame > pcm::MAX_FRAMES {
-        return Verdict::Refused(Error::TooLong);
+        return Err(Error::TooLong);
     }
-    Verdict::Accepted
+    Ok(())
 }
 
 // The frames of a block; none of one whose size is refused.
@@ -78,8 +78,8 @@ fn block_frames(format: PcmFormat, size: usize) -> usize
 {
     let asked = size_question(format, size);
     match asked {
-        Verdict::Refused(_) => 0,
-        Verdict::Accepted => size / format.frame_bytes(),
+        Err(_) => 0,
+        Ok(()) => size / format.frame_bytes(),
     }
 }
 
@@ -196,32 +196,32 @@ pub fn begun(format: PcmFormat, count: usize, size: usize, shorter: usize) -> Wa
 }
 
 // After the walk: is every stage legal, and the size?
-pub fn sized(format: PcmFormat, size: usize, walk: Walk) -> Verdict
+pub fn sized(format: PcmFormat, size: usize, walk: Walk) -> Result<(), Error>
     requires { 0 < format.channels }
     ensures { result ≡ sized_from format size walk }
 {
     if walk.legal {
         return size_question(format, size);
     }
-    Verdict::Refused(Error::InvalidFormat)
+    Err(Error::InvalidFormat)
 }
 
 // The same, then: in the chain's format, and room?
-pub fn verdict(own: PcmFormat, format: PcmFormat, size: usize, walk: Walk) -> Verdict
+pub fn verdict(own: PcmFormat, format: PcmFormat, size: usize, walk: Walk) -> Result<(), Error>
     requires { (0 < own.channels) × (walk.short ≤ 3688000000000000000) }
     ensures { result ≡ verdict_from own format size walk }
 {
     let asked = sized(own, size, walk);
-    if let Verdict::Refused(e) = asked {
-        return Verdict::Refused(e);
+    if let Err(e) = asked {
+        return Err(e);
     }
     if !same_format(own, format) {
-        return Verdict::Refused(Error::Unsupported);
+        return Err(Error::Unsupported);
     }
     if walk.short != 0 {
-        return Verdict::Refused(Error::BufferTooSmall {
+        return Err(Error::BufferTooSmall {
             needed: 2 * walk.short,
         });
     }
-    Verdict::Accepted
+    Ok(())
 }

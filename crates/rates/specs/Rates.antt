@@ -1,14 +1,11 @@
 -- A lone resampler, the room that it wants and the frames that it brings (document 01, resample.rs and 'The questions'). Assumes nothing.
-use Rattle.std.specs.Prelude.{◌≡◌, Bool, cond, ◌&&◌, false, ℕ, ◌+◌, ◌*◌, ◌/◌, ◌≤◌, ◌<◌, ◌-◌, leb, eqb, [], ◌∷◌, pos}
+use Rattle.pcm.specs.declared.Error.{Error}
+use Rattle.std.specs.Prelude.{◌≡◌, Bool, cond, ◌&&◌, false, ℕ, ◌+◌, ◌*◌, ◌/◌, ◌≤◌, ◌<◌, ◌-◌, leb, eqb, [], ◌∷◌, pos, Ok, Err, Result}
 use Rattle.pcm.specs.Formats.{rate_allowed}
 use Rattle.pcm.specs.declared.Error.TheVariants.{InvalidFormat, TooLong}
 use Rattle.rates.specs.Divisor.{gcd}
 use Rattle.rates.specs.Counting.{ceil_div, count}
 use Rattle.rates.specs.declared.LinearResampler.{LinearResampler}
-use Rattle.rates.specs.declared.NewResampler.{NewResampler}
-use Rattle.rates.specs.declared.NewResampler.TheVariants as New
-use Rattle.rates.specs.declared.MaxFrames.{MaxFrames}
-use Rattle.rates.specs.declared.MaxFrames.TheVariants as Max
 use Rattle.rates.specs.declared.ResamplerState.{ResamplerState}
 
 -- are its rates within the limit?
@@ -20,17 +17,17 @@ unfoldable pub reduced : ℕ → ℕ → LinearResampler
 reduced input output = record { in_rate = input; out_rate = output; in_r = input / gcd input output; out_r = output / gcd input output }
 
 -- are its rates within the limit? else 1
-unfoldable pub resampler_of : ℕ → ℕ → NewResampler
-resampler_of input output = cond (rates_allowed input output) (New.Made (reduced input output)) (New.Refused InvalidFormat)
+unfoldable pub resampler_of : ℕ → ℕ → Result LinearResampler Error
+resampler_of input output = cond (rates_allowed input output) (Ok (reduced input output)) (Err InvalidFormat)
 
 -- for n frames the room wanted is ceil(n * out / in) + 1 frames, at equal rates also
 unfoldable pub room_frames : ℕ → ℕ → ℕ → ℕ
 room_frames input output n = ceil_div (n * output) input + 1
 
 -- are its rates within the limit? else 1; at most 8,192 frames? else 10
-unfoldable pub max_frames : LinearResampler → ℕ → MaxFrames
+unfoldable pub max_frames : LinearResampler → ℕ → Result ℕ Error
 max_frames r n =
-    cond (rates_allowed r.in_rate r.out_rate) (cond (leb n 8192) (Max.Frames (room_frames r.in_rate r.out_rate n)) (Max.Refused TooLong)) (Max.Refused InvalidFormat)
+    cond (rates_allowed r.in_rate r.out_rate) (cond (leb n 8192) (Ok (room_frames r.in_rate r.out_rate n)) (Err TooLong)) (Err InvalidFormat)
 
 -- rates within their limit, and in_r and out_r of the same ratio: what an opened resampler has
 pub record Rates (r : LinearResampler) : Type 0 where

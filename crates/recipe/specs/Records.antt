@@ -1,18 +1,15 @@
 -- The records of a recipe and the questions that their bytes are asked (document 01, 'The recipe' and 'The questions'; document 02, Q-4). Definitions only.
-use Rattle.std.specs.Prelude.{◌≡◌, Bool, ◌&&◌, ◌||◌, cond, List, [], ◌∷◌, ◌++◌, ℕ, zero, suc, ◌+◌, ◌-◌, ◌*◌, leb, ltb, eqb, length, get_or, take, drop}
+use Rattle.pcm.specs.declared.Error.{Error}
+use Rattle.std.specs.Prelude.{◌≡◌, Bool, ◌&&◌, ◌||◌, cond, List, [], ◌∷◌, ◌++◌, ℕ, zero, suc, ◌+◌, ◌-◌, ◌*◌, leb, ltb, eqb, length, get_or, take, drop, Ok, Err, Result}
 use Rattle.std.specs.Int.{w32}
 use Rattle.std.proofs.Common.{to_z, of_z}
 use Rattle.pcm.specs.Samples.{All}
-use Rattle.pcm.specs.Refusals.{ask, and_then}
+use Rattle.pcm.specs.Refusals.{ask, and_then, Verdict}
 use Rattle.pcm.specs.declared.Error.TheVariants.{ShortRecord, UnknownStage, RecordLength, NoteTooLong}
-use Rattle.pcm.specs.declared.Verdict.{Verdict}
-use Rattle.pcm.specs.declared.Verdict.TheVariants.{Accepted, Refused}
 use Rattle.recipe.specs.declared.Record.{Record}
 use Rattle.recipe.specs.declared.Record.TheVariants as rec
 use Rattle.recipe.specs.declared.Entry.{Entry}
 use Rattle.recipe.specs.declared.Entry.TheVariants as entry
-use Rattle.recipe.specs.declared.RecordAnswer.{RecordAnswer}
-use Rattle.recipe.specs.declared.RecordAnswer.TheVariants as answer
 use Rattle.words.specs.Words.{word_at, word_bytes, words, words_bytes}
 
 -- 0x0001 gain, 0x0002 mono to stereo, 0x0003 stereo to mono, 0x0004 resample, 0x0005 DC, 0x0006 biquad
@@ -100,8 +97,8 @@ record_at left = record_of (kind_at left) (words (field_count (kind_at left)) (d
 abbrev pub length_verdict : ℕ → ℕ → Verdict
 length_verdict kind length =
     cond (of_note kind)
-    (ask (leb length (2 + 64)) NoteTooLong Accepted)
-    (ask (eqb length (2 + 4 * field_count kind)) RecordLength Accepted)
+    (ask (leb length (2 + 64)) NoteTooLong (Ok tt))
+    (ask (eqb length (2 + 4 * field_count kind)) RecordLength (Ok tt))
 
 -- are four bytes left, and is the length at least 2? else 5. Is the kind known? else 6. Is the length one that kind has? else 7, of a note 11. Is the whole record there? else 5.
 unfoldable pub record_verdict : List ℕ → Verdict
@@ -110,23 +107,23 @@ record_verdict left =
     (ask (known (kind_at left)) UnknownStage
     (and_then (length_verdict (kind_at left) (length_at left))
     (ask (leb (2 + length_at left) (length left)) ShortRecord
-    Accepted)))
+    (Ok tt))))
 
 -- a note of so many bytes, or a stage's record
 unfoldable pub entry_at : List ℕ → Entry
 entry_at left = cond (of_note (kind_at left)) (entry.Note (length_at left - 2)) (entry.Stage (record_at left))
 
-abbrev pub answered : Verdict → Entry → RecordAnswer
-answered Accepted found = answer.Entry found
-answered (Refused e) found = answer.Refused e
+abbrev pub answered : Verdict → Entry → Result Entry Error
+answered (Ok tt) found = Ok found
+answered (Err e) found = Err e
 
-unfoldable pub read_record : List ℕ → RecordAnswer
+unfoldable pub read_record : List ℕ → Result Entry Error
 read_record left = answered (record_verdict left) (entry_at left)
 
 -- what its questions come to
-abbrev pub record_answer_verdict : RecordAnswer → Verdict
-record_answer_verdict (answer.Entry found) = Accepted
-record_answer_verdict (answer.Refused e) = Refused e
+abbrev pub record_answer_verdict : (Result Entry Error) → Verdict
+record_answer_verdict (Ok found) = Ok tt
+record_answer_verdict (Err e) = Err e
 
 -- ---- all records
 -- the bytes that are left at the first byte of each record, where so many are passed over before the next one. A record is its two-byte length and as many bytes as that says
@@ -144,4 +141,4 @@ record_here left = take (2 + length_at left) left
 
 -- the questions of every record answered yes
 abbrev pub WholeRecords : List (List ℕ) → Type 0
-WholeRecords rs = All (λ (left : List ℕ). record_verdict left ≡ Accepted) rs
+WholeRecords rs = All (λ (left : List ℕ). record_verdict left ≡ Ok tt) rs

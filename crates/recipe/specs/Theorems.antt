@@ -1,5 +1,5 @@
 -- What the definitions come to: the chief theorems of this crate. Assumes nothing.
-use Rattle.std.specs.Prelude.{◌≡◌, false, List, [], ◌++◌, drop}
+use Rattle.std.specs.Prelude.{◌≡◌, false, List, [], ◌++◌, drop, Ok, Err}
 use Rattle.std.proofs.Math.Path.{refl, ap}
 use Rattle.std.proofs.Common.{◌∙◌, arith, drop_at}
 use Rattle.std.proofs.Math.Bool.{true}
@@ -8,10 +8,8 @@ use borrow.Author.Tests.{le-leb, lt-leb, eq-eqb}
 use Rattle.std.proofs.Math.Dec.{leb, eqb}
 use Rattle.std.proofs.Math.ListN.{length, length-append}
 use Rattle.pcm.specs.declared.Error.TheVariants.{NoteTooLong}
-use Rattle.pcm.specs.declared.Verdict.TheVariants.{Accepted, Refused}
 use Rattle.recipe.specs.declared.Record.{Record}
 use Rattle.recipe.specs.declared.Entry.TheVariants as entry
-use Rattle.recipe.specs.declared.RecordAnswer.TheVariants as answer
 use Rattle.words.specs.Words.{words_bytes}
 use Rattle.words.specs.laws.Words.{word_there, words_there}
 use Rattle.recipe.specs.Records.{of_note, kind_number, fields_of, record_bytes, length_at, kind_at, record_at, record_verdict, entry_at, read_record, records}
@@ -30,7 +28,7 @@ module _ (r : Record) (rest : List ℕ) where
   unfolding record_bytes
   kind_read = word_there 2 (kind_number r) (kind_small r)
 
-  pub written_accepted : record_verdict (record_bytes r ++ rest) ≡ Accepted
+  pub written_accepted : record_verdict (record_bytes r ++ rest) ≡ Ok tt
   unfolding record_verdict
   written_accepted =
       let n : ℕ = length (fields_of r) in
@@ -53,16 +51,16 @@ module _ (r : Record) (rest : List ℕ) where
   written_no_note = ap of_note kind_read ∙ (kind_of_stage r).1
 
   -- what is written reads back as the same record, whatever follows it
-  pub read_written : Fitting r → read_record (record_bytes r ++ rest) ≡ answer.Entry (entry.Stage r)
+  pub read_written : Fitting r → read_record (record_bytes r ++ rest) ≡ Ok (entry.Stage r)
   unfolding read_record entry_at
-  read_written f = rw (written_accepted, written_no_note) (ap (λ (x : Record). answer.Entry (entry.Stage x)) (written_record f))
+  read_written f = rw (written_accepted, written_no_note) (ap (λ (x : Record). Ok (entry.Stage x)) (written_record f))
 
   -- and is passed over to what follows it
   pub after_written : after_next (record_bytes r ++ rest) ≡ rest
   after_written = drop_at (record_bytes r) rest (2 + length_at (record_bytes r ++ rest)) (omega (arith, record_size r, length_read))
 
 -- a longer note is 11, however much of it is there
-pub longer_note : (left : List ℕ) → 4 ≤ length left → 0x8000 ≤ kind_at left → 2 + 64 < length_at left → record_verdict left ≡ Refused NoteTooLong
+pub longer_note : (left : List ℕ) → 4 ≤ length left → 0x8000 ≤ kind_at left → 2 + 64 < length_at left → record_verdict left ≡ Err NoteTooLong
 unfolding record_verdict
 longer_note left four kind long =
     let n : of_note (kind_at left) ≡ true = le-leb 0x8000 (kind_at left) kind in

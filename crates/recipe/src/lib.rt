@@ -3,13 +3,12 @@
 
 ghost use Rattle.std.specs.Prelude.{◌≡◌, true, ◌+◌, ◌*◌, ◌≤◌, ◌<◌, length, drop};
 ghost use Rattle.pcm.specs.Frames.{written};
-ghost use Rattle.pcm.specs.declared.Verdict.TheVariants.{Accepted};
 ghost use Rattle.words.specs.Words.{words, words_bytes};
 ghost use Rattle.std.proofs.lemmas.List.Edits.{sets};
 ghost use Rattle.recipe.specs.Records.{of_stage, of_note, known, field_count, length_verdict, record_verdict, record_of, entry_at, read_record, record_answer_verdict, record_bytes, kind_number, fields_of};
 
 use biquad::CoefficientBits;
-use pcm::{Error, Verdict};
+use pcm::{Error};
 
 // A stage's fields as its record's bytes give them.
 #[derive(Clone, Copy)]
@@ -37,12 +36,12 @@ pub enum RecordAnswer {
 
 impl RecordAnswer {
     // What the questions came to.
-    pub fn verdict(self) -> Verdict
+    pub fn verdict(self) -> Result<(), Error>
         ensures { result ≡ record_answer_verdict self }
     {
         match self {
-            RecordAnswer::Entry(_) => Verdict::Accepted,
-            RecordAnswer::Refused(e) => Verdict::Refused(e),
+            RecordAnswer::Entry(_) => Ok(()),
+            RecordAnswer::Refused(e) => Err(e),
         }
     }
 }
@@ -90,46 +89,46 @@ fn field_count(kind: u16) -> usize
 }
 
 // Is the length one that the kind has? It counts the two bytes of the kind.
-fn length_question(kind: u16, length: usize) -> Verdict
+fn length_question(kind: u16, length: usize) -> Result<(), Error>
     requires { known kind ≡ true }
     ensures { result ≡ length_verdict kind length }
 {
     if of_note(kind) {
         if length > 66 {
-            return Verdict::Refused(Error::NoteTooLong);
+            return Err(Error::NoteTooLong);
         }
-        return Verdict::Accepted;
+        return Ok(());
     }
     if length != 2 + 4 * field_count(kind) {
-        return Verdict::Refused(Error::RecordLength);
+        return Err(Error::RecordLength);
     }
-    Verdict::Accepted
+    Ok(())
 }
 
 // The questions of a record's bytes.
-fn record_question(left: &[u8]) -> Verdict
+fn record_question(left: &[u8]) -> Result<(), Error>
     ensures { result ≡ record_verdict left.now }
 {
     if left.len() < 4 {
-        return Verdict::Refused(Error::ShortRecord);
+        return Err(Error::ShortRecord);
     }
     let length = words::get_u16(left, 0) as usize;
     let whole = left.len() >= 2 + length;
     if length < 2 {
-        return Verdict::Refused(Error::ShortRecord);
+        return Err(Error::ShortRecord);
     }
     let kind = words::get_u16(left, 2);
     if !known(kind) {
-        return Verdict::Refused(Error::UnknownStage);
+        return Err(Error::UnknownStage);
     }
     let sized = length_question(kind, length);
-    if let Verdict::Refused(e) = sized {
-        return Verdict::Refused(e);
+    if let Err(e) = sized {
+        return Err(e);
     }
     if !whole {
-        return Verdict::Refused(Error::ShortRecord);
+        return Err(Error::ShortRecord);
     }
-    Verdict::Accepted
+    Ok(())
 }
 
 // A biquad's record, whose fields start at the fifth byte.
@@ -173,7 +172,7 @@ fn record_of(kind: u16, left: &[u8]) -> Record
 
 // What a record is whose questions were all answered yes.
 fn entry_of(left: &[u8]) -> Entry
-    requires { record_verdict left.now ≡ Accepted }
+    requires { record_verdict left.now ≡ Ok tt }
     ensures { result ≡ entry_at left.now }
 {
     let kind = words::get_u16(left, 2);
@@ -191,8 +190,8 @@ impl Record {
     {
         let v = record_question(left);
         match v {
-            Verdict::Accepted => RecordAnswer::Entry(entry_of(left)),
-            Verdict::Refused(e) => RecordAnswer::Refused(e),
+            Ok(()) => RecordAnswer::Entry(entry_of(left)),
+            Err(e) => RecordAnswer::Refused(e),
         }
     }
 

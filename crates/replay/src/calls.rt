@@ -7,7 +7,7 @@ use answers::Half;
 use cookbook::{BiquadKind, Coefficients};
 use dc_block::DcBlock;
 use gain::Gain;
-use pcm::{PcmFormat, Saturated, Verdict};
+use pcm::{PcmFormat, Saturated};
 use pipeline::Pipeline;
 use rates::{LinearResampler, MaxFrames, NewResampler};
 use room::RoomTold;
@@ -62,11 +62,11 @@ pub fn open(chain: Pipeline, buf: &mut [u8]) -> Step {
     let next = opened.chain;
     output::short(verdict.number());
     match verdict {
-        Verdict::Accepted => Step {
+        Ok(()) => Step {
             ok: true,
             chain: next,
         },
-        Verdict::Refused(_) => Step { ok: true, chain },
+        Err(_) => Step { ok: true, chain },
     }
 }
 

@@ -1,16 +1,16 @@
 -- Number and values of the room, from the answer that they are of. Assumes nothing.
+use Rattle.std.specs.Prelude.{Ok, Err}
+use Rattle.pcm.specs.Refusals.{Verdict}
 use mathlib.Core.Path.{◌≡◌, refl, ap, ◌∙◌}
 use Prim.Native.Nat.{ℕ}
-use Rattle.pcm.specs.declared.Verdict.{Verdict}
-use Rattle.pcm.specs.declared.Verdict.TheVariants.{Accepted, Refused}
 use Rattle.pipeline.specs.declared.Pipeline.{Pipeline}
 use Rattle.questions.specs.declared.Walk.{Walk}
 use Rattle.room.specs.declared.Room.{Room}
 use Rattle.room.specs.Room.{block_found, finish_found, block_asked, finish_asked, room_answer, block_room, finish_room, room_told, told_of_room, block_room_told, finish_room_told}
 
 told_by : (v : Verdict) (w : Walk) → room_told (room_answer v w) ≡ told_of_room v w
-told_by Accepted w = refl
-told_by (Refused e) w = refl
+told_by (Ok tt) w = refl
+told_by (Err e) w = refl
 
 pub block_told_lem : (c : Pipeline) (n : ℕ) (r : Room) → r ≡ block_room c n → (r ≡ block_room c n) × (room_told r ≡ block_room_told c n)
 unfolding block_room

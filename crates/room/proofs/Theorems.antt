@@ -1,10 +1,9 @@
 -- What `block_room` and `finish_room` answer is what the calls then do: the chief theorems of this crate (document 02, Q-5). Assumes nothing.
-use Rattle.std.specs.Prelude.{◌≡◌, true, ℕ, ◌*◌, ◌≤◌, ◌<◌}
+use Rattle.pcm.specs.Refusals.{Verdict}
+use Rattle.std.specs.Prelude.{◌≡◌, true, ℕ, ◌*◌, ◌≤◌, ◌<◌, Err}
 use Rattle.std.proofs.Common.{le_antisymm}
 use Rattle.pcm.specs.declared.Error.{Error}
 use Rattle.pcm.specs.declared.PcmFormat.{PcmFormat}
-use Rattle.pcm.specs.declared.Verdict.{Verdict}
-use Rattle.pcm.specs.declared.Verdict.TheVariants.{Refused}
 use Rattle.pipeline.specs.declared.Pipeline.{Pipeline}
 use Rattle.block.specs.BlockCall.{legal, block_verdict}
 use Rattle.room.specs.declared.Room.TheVariants as room
@@ -22,7 +21,7 @@ module _ (c : Pipeline) (sound : Sounding c) (lawful : legal c ≡ true) where
   finish_beforehand = let e = finish_answered c lawful in record { frames = _; half = _; answer = e; known = finish_known c sound _ _ e }
 
 -- what is refused beforehand, the block call refuses with the same number, whatever the halves
-pub refused_alike : (c : Pipeline) (n : ℕ) (e : Error) → block_room c n ≡ room.Refused e → (format : PcmFormat) (shorter : ℕ) → block_verdict c format (n * frame_bytes c) shorter ≡ Refused e
+pub refused_alike : (c : Pipeline) (n : ℕ) (e : Error) → block_room c n ≡ room.Refused e → (format : PcmFormat) (shorter : ℕ) → block_verdict c format (n * frame_bytes c) shorter ≡ Err e
 unfolding block_verdict
 refused_alike c n e known format shorter = refused_then c n e known _
 

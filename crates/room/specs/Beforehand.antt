@@ -1,8 +1,7 @@
 -- What is known beforehand, and what the block call and the finish then do (document 02, Q-5). Definitions only.
-use Rattle.std.specs.Prelude.{◌≡◌, List, [], ℕ, ◌-◌, ◌*◌, ◌≤◌, ◌<◌, length}
+use Rattle.pcm.specs.Refusals.{Verdict}
+use Rattle.std.specs.Prelude.{◌≡◌, List, [], ℕ, ◌-◌, ◌*◌, ◌≤◌, ◌<◌, length, Ok, Err}
 use Rattle.pcm.specs.declared.Error.TheVariants.{BufferTooSmall}
-use Rattle.pcm.specs.declared.Verdict.{Verdict}
-use Rattle.pcm.specs.declared.Verdict.TheVariants.{Accepted, Refused}
 use Rattle.pcm.specs.Samples.{Bytes}
 use Rattle.pcm.specs.Frames.{Frame, FramesOf, frames_of}
 use Rattle.pipeline.specs.declared.Pipeline.{Pipeline}
@@ -23,14 +22,14 @@ use Rattle.room.specs.Room.{block_room, finish_room}
 -- a shorter half that is too small: 3, with needed = twice the room of the first stage short, which is more than that half and at most `half`
 pub record TooSmall (v : Verdict) (shorter half : ℕ) : Type 0 where
   pub first : ℕ
-  pub verdict : v ≡ Refused (BufferTooSmall (2 * first))
+  pub verdict : v ≡ Err (BufferTooSmall (2 * first))
   pub above : shorter < first
   pub most : first ≤ half
 
 -- a call comes to `verdict m` where its shorter half has m bytes: `half` is the smallest that is accepted
 pub record Smallest (verdict : ℕ → Verdict) (half : ℕ) : Type 0 where
-  pub enough : (shorter : ℕ) → half ≤ shorter → verdict shorter ≡ Accepted
-  pub one_less : 0 < half → verdict (half - 1) ≡ Refused (BufferTooSmall (2 * half))
+  pub enough : (shorter : ℕ) → half ≤ shorter → verdict shorter ≡ Ok tt
+  pub one_less : 0 < half → verdict (half - 1) ≡ Err (BufferTooSmall (2 * half))
   pub too_small : (shorter : ℕ) → shorter < half → TooSmall (verdict shorter) shorter half
 
 -- bytes of a frame that enters a chain, and of one that leaves it

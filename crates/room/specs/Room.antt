@@ -1,9 +1,7 @@
 -- The room known beforehand (document 02, Q-5). Definitions only.
-use Rattle.std.specs.Prelude.{ℕ, ◌*◌, leb, ltb}
+use Rattle.std.specs.Prelude.{ℕ, ◌*◌, leb, ltb, Ok, Err}
 use Rattle.pcm.specs.declared.Error.TheVariants.{InvalidFormat, InvalidGeometry, TooLong}
-use Rattle.pcm.specs.declared.Verdict.{Verdict}
-use Rattle.pcm.specs.declared.Verdict.TheVariants.{Accepted, Refused}
-use Rattle.pcm.specs.Refusals.{ask, number_of, if_accepted, refusal}
+use Rattle.pcm.specs.Refusals.{ask, number_of, if_accepted, refusal, Verdict}
 use Rattle.pipeline.specs.declared.Pipeline.{Pipeline}
 use Rattle.pipeline.specs.WritingBack.{stages_of}
 use Rattle.questions.specs.declared.Question.{Question}
@@ -31,21 +29,21 @@ finish_found c = found Finish c 0
 -- ---- the questions
 -- 'A frame count outside the limits gets 4 for none and 10 for too many'
 abbrev pub frames_verdict : ℕ → Verdict
-frames_verdict n = ask (ltb 0 n) InvalidGeometry (ask (leb n 8192) TooLong Accepted)
+frames_verdict n = ask (ltb 0 n) InvalidGeometry (ask (leb n 8192) TooLong (Ok tt))
 
 -- Is the chain legal? else 1. Then the frames
 abbrev pub block_asked : Pipeline → ℕ → Verdict
 block_asked c n = ask (legal c) InvalidFormat (frames_verdict n)
 
 abbrev pub finish_asked : Pipeline → Verdict
-finish_asked c = ask (legal c) InvalidFormat Accepted
+finish_asked c = ask (legal c) InvalidFormat (Ok tt)
 
 -- ---- the answer
 -- 'the exact number of output frames', those that leave the last stage, 'and the smallest equal halves that are accepted': in bytes of one half
 -- the largest room wanted over the stages that will be reached, for no stages by the block; at a finish a stage wants room for what it delivers
 abbrev pub room_answer : Verdict → Walk → Room
-room_answer Accepted w = room.Known w.frames w.largest
-room_answer (Refused e) w = room.Refused e
+room_answer (Ok tt) w = room.Known w.frames w.largest
+room_answer (Err e) w = room.Refused e
 
 unfoldable pub block_room : Pipeline → ℕ → Room
 block_room c n = room_answer (block_asked c n) (block_found c n)

@@ -4,13 +4,12 @@
 
 ghost use Rattle.std.specs.Prelude.{◌≡◌, true, ◌≤◌, ◌<◌};
 ghost use Rattle.pcm.specs.declared.Error.TheVariants.{InvalidFormat};
-ghost use Rattle.pcm.specs.declared.Verdict.TheVariants.{Accepted};
 ghost use Rattle.pcm.specs.Refusals.{ask};
 ghost use Rattle.questions.specs.Walk.{head_legal, sized_from};
 ghost use Rattle.room.specs.Asked.{asked_frames, asked_bytes};
 ghost use Rattle.room.specs.Room.{found, room_answer, block_room, finish_room, room_told, block_room_told, finish_room_told};
 
-use pcm::{Error, PcmFormat, Verdict};
+use pcm::{Error, PcmFormat};
 use pipeline::Pipeline;
 use questions::{Question, Walk};
 
@@ -85,14 +84,14 @@ pub fn of_block(format: PcmFormat, size: usize, walk: Walk) -> Room
 {
     let asked = questions::sized(format, size, walk);
     match asked {
-        Verdict::Refused(e) => Room::Refused(e),
-        Verdict::Accepted => known(walk),
+        Err(e) => Room::Refused(e),
+        Ok(()) => known(walk),
     }
 }
 
 // After the walk that asks a finish's: is every stage legal?
 pub fn of_finish(walk: Walk) -> Room
-    ensures { result ≡ room_answer (ask walk.legal InvalidFormat Accepted) walk }
+    ensures { result ≡ room_answer (ask walk.legal InvalidFormat (Ok tt)) walk }
 {
     if !walk.legal {
         return Room::Refused(Error::InvalidFormat);

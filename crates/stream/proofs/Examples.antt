@@ -1,9 +1,8 @@
 -- Document 01's example (f) by calls on the chain of its recipe's bytes, with a refused block, a reset and finishes among them. Assumes nothing.
-use Rattle.std.specs.Prelude.{◌≡◌, refl, List, [], ◌∷◌, ◌++◌, map, ℕ, pos}
+use Rattle.std.specs.Prelude.{◌≡◌, refl, List, [], ◌∷◌, ◌++◌, map, ℕ, pos, Ok, Result}
 use Rattle.std.proofs.Common.{ap, ◌∙◌}
 use Rattle.pcm.specs.declared.PcmFormat.{PcmFormat}
 use Rattle.pcm.specs.declared.Error.TheVariants.{BufferTooSmall, InvalidGeometry, TooLong}
-use Rattle.pcm.specs.declared.Verdict.TheVariants.{Accepted}
 use Rattle.pcm.specs.Formats.{rate_allowed, channels_allowed, format_allowed}
 use Rattle.pcm.specs.Samples.{held, outside, sample_of, low_of, high_of}
 use Rattle.pcm.specs.Frames.{Frame, frames_of, bytes_of, written}
@@ -52,12 +51,12 @@ recipe = 0x0A ∷ 0x00 ∷ 0x04 ∷ 0x00 ∷ 0x40 ∷ 0x1F ∷ 0x00 ∷ 0x00 ∷
 abbrev doubling : Pipeline
 doubling = chain_of mono8000 (stage_as_opened (kind.Resample (reduced 8000 16000)) ∷ [])
 
-opened_f : open_call mono8000 recipe ≡ record { verdict = Accepted; chain = doubling }
+opened_f : open_call mono8000 recipe ≡ record { verdict = Ok tt; chain = doubling }
 unfolding open_call open_stages open_records records_after record_verdict stage_verdict record_of rate_allowed channels_allowed format_allowed rates_allowed
 opened_f = refl
 
 -- with a note of two bytes before its stage, and one of none after it
-noted_f : open_call mono8000 (0x04 ∷ 0x00 ∷ 0x00 ∷ 0x80 ∷ 0x68 ∷ 0x69 ∷ recipe ++ (0x02 ∷ 0x00 ∷ 0xFF ∷ 0xFF ∷ [])) ≡ record { verdict = Accepted; chain = doubling }
+noted_f : open_call mono8000 (0x04 ∷ 0x00 ∷ 0x00 ∷ 0x80 ∷ 0x68 ∷ 0x69 ∷ recipe ++ (0x02 ∷ 0x00 ∷ 0xFF ∷ 0xFF ∷ [])) ≡ record { verdict = Ok tt; chain = doubling }
 unfolding open_call open_stages open_records records_after record_verdict stage_verdict record_of rate_allowed channels_allowed format_allowed rates_allowed
 noted_f = refl
 

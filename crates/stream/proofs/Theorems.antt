@@ -1,9 +1,8 @@
 -- What the definitions come to: the chief theorems of this crate. Assumes nothing.
-use Rattle.std.specs.Prelude.{◌≡◌, refl, Bool, true, false, List, [], ◌∷◌, map, ℕ, ◌*◌, ◌≤◌, ◌<◌, length, drop}
+use Rattle.std.specs.Prelude.{◌≡◌, refl, Bool, true, false, List, [], ◌∷◌, map, ℕ, ◌*◌, ◌≤◌, ◌<◌, length, drop, Ok}
 use Rattle.std.proofs.Common.{sym, ap, ◌∙◌, arith, le-leb, zero-add}
 use Rattle.pcm.specs.declared.PcmFormat.{PcmFormat}
 use Rattle.pcm.specs.declared.Error.TheVariants.{InvalidFormat}
-use Rattle.pcm.specs.declared.Verdict.TheVariants.{Accepted}
 use Rattle.pcm.specs.Formats.{format_allowed}
 use Rattle.pcm.specs.Refusals.{ask, number_of, room_verdict}
 use Rattle.pipeline.specs.Opening.{asked, open_stages, opened_of, open_call}
@@ -27,7 +26,6 @@ use Rattle.writing.specs.WritingBack.{recipe_of}
 use Rattle.pipeline.specs.WritingBack.{write_verdict, write_outcome, write_call, stages_of}
 use Rattle.pipeline.proofs.laws.RoundTrip.{recipe_of_kinds}
 use Rattle.pipeline.proofs.RecipeKept.{recipe_kept}
-use Rattle.answers.specs.declared.Scratch.TheVariants as scratch
 use Rattle.block.specs.BlockCall.{legal, block_verdict, scratch_bytes}
 use Rattle.block.specs.laws.Bounds.{legal_parts}
 use Rattle.block.specs.Theorems.{scratch_suffices}
@@ -48,25 +46,25 @@ use Rattle.stream.specs.PlainChain.{plain_stage, received_by, delivered_by}
 use Rattle.stream.proofs.laws.PlainChain.{through_stage}
 use Rattle.stream.specs.PlainEnd.{plain_ended, received_at_end, delivered_at_end}
 
-pub opened_chain : (f : PcmFormat) (recipe : List ℕ) → (open_call f recipe).verdict ≡ Accepted → FreshlyOpened (open_call f recipe).chain
+pub opened_chain : (f : PcmFormat) (recipe : List ℕ) → (open_call f recipe).verdict ≡ Ok tt → FreshlyOpened (open_call f recipe).chain
 unfolding open_call
 opened_chain f recipe h = go (format_allowed f) refl h
   where
-    go : (t : Bool) → format_allowed f ≡ t → (opened_of f (asked (ask t InvalidFormat Accepted) (open_stages 8 f recipe))).verdict ≡ Accepted
-        → FreshlyOpened (opened_of f (asked (ask t InvalidFormat Accepted) (open_stages 8 f recipe))).chain
+    go : (t : Bool) → format_allowed f ≡ t → (opened_of f (asked (ask t InvalidFormat (Ok tt)) (open_stages 8 f recipe))).verdict ≡ Ok tt
+        → FreshlyOpened (opened_of f (asked (ask t InvalidFormat (Ok tt)) (open_stages 8 f recipe))).chain
     go true e h = stages_chain f e (open_stages 8 f recipe) (stages_opened 8 f recipe) h
     go false e h = zero_not_one (cc)
 
 -- a chain that opening accepted is one that the block call takes
-pub opened_is_legal : (f : PcmFormat) (recipe : List ℕ) → (open_call f recipe).verdict ≡ Accepted → legal (open_call f recipe).chain ≡ true
+pub opened_is_legal : (f : PcmFormat) (recipe : List ℕ) → (open_call f recipe).verdict ≡ Ok tt → legal (open_call f recipe).chain ≡ true
 opened_is_legal f recipe h = (opened_chain f recipe h).lawful
 
 -- whatever the format and the recipe that opening accepts, the block, reset and finish calls, and the blocks and halves that they bring
-pub whole_stream : (f : PcmFormat) (recipe : List ℕ) → (open_call f recipe).verdict ≡ Accepted → (calls : List Call) → All Lent calls
+pub whole_stream : (f : PcmFormat) (recipe : List ℕ) → (open_call f recipe).verdict ≡ Ok tt → (calls : List Call) → All Lent calls
     → WholeStream (open_call f recipe).chain (stream_of (open_call f recipe).chain calls) (run_of (open_call f recipe).chain calls)
 whole_stream f recipe h calls lent = whole_stream_of (open_call f recipe).chain (opened_chain f recipe h) calls lent
 
-module _ (f : PcmFormat) (recipe : List ℕ) (h : (open_call f recipe).verdict ≡ Accepted) (calls : List Call) (lent : All Lent calls) where
+module _ (f : PcmFormat) (recipe : List ℕ) (h : (open_call f recipe).verdict ≡ Ok tt) (calls : List Call) (lent : All Lent calls) where
   -- the chain as opened, and as the calls left it
   abbrev o : Pipeline
   o = (open_call f recipe).chain
@@ -91,7 +89,7 @@ module _ (f : PcmFormat) (recipe : List ℕ) (h : (open_call f recipe).verdict �
   pub still_legal : legal c ≡ true
   still_legal = legal_since o (opened_chain f recipe h) next_call
 
-  as_answered : open_call f recipe ≡ record { verdict = Accepted; chain = o }
+  as_answered : open_call f recipe ≡ record { verdict = Ok tt; chain = o }
   as_answered = ap (λ v. let r : Opened = record { verdict = v; chain = o } in r) h
 
   -- a chain writes itself back to the bytes it was opened from, without their notes; needed is the bytes so written
@@ -106,7 +104,7 @@ module _ (f : PcmFormat) (recipe : List ℕ) (h : (open_call f recipe).verdict �
   writes_back_exactly b n = let k = no_notes recipe n in rw k at (writes_back b)
 
   -- `scratch_bytes` of the chain as opened: halves of half that figure each never give 3
-  pub scratch_still_suffices : (format : PcmFormat) (size figure short : ℕ) → scratch_bytes o size ≡ scratch.Bytes figure → figure ≤ 2 * short
+  pub scratch_still_suffices : (format : PcmFormat) (size figure short : ℕ) → scratch_bytes o size ≡ Ok figure → figure ≤ 2 * short
       → number_of (block_verdict c format size short) ≡ 3 → ⊥
   scratch_still_suffices format size figure short e room three =
       scratch_suffices o c format size figure short (sym whole.format) (sym kinds_kept)
@@ -127,7 +125,7 @@ module _ (f : PcmFormat) (recipe : List ℕ) (h : (open_call f recipe).verdict �
   finish_still_beforehand = finish_beforehand c (sounding o (opened_chain f recipe h) next_call) still_legal
 
 -- `blocks` grows with each accepted block; reset and finish clear sound state, not counters
-pub blocks_counted : (f : PcmFormat) (recipe : List ℕ) → (open_call f recipe).verdict ≡ Accepted → (calls : List Call) → All Lent calls
+pub blocks_counted : (f : PcmFormat) (recipe : List ℕ) → (open_call f recipe).verdict ≡ Ok tt → (calls : List Call) → All Lent calls
     → (run_of (open_call f recipe).chain calls).chain.blocks ≡ held_count (accepted_blocks (open_call f recipe).chain calls)
 unfolding held_count
 blocks_counted f recipe h calls lent =

@@ -1,7 +1,6 @@
 -- What the counters count in any calls (document 01, pipeline.rs; document 02, Q-1). Definitions only.
-use Rattle.std.specs.Prelude.{cond, List, [], ◌∷◌, ℕ, ◌+◌, leb}
-use Rattle.pcm.specs.declared.Verdict.{Verdict}
-use Rattle.pcm.specs.declared.Verdict.TheVariants.{Accepted, Refused}
+use Rattle.pcm.specs.Refusals.{Verdict}
+use Rattle.std.specs.Prelude.{cond, List, [], ◌∷◌, ℕ, ◌+◌, leb, Ok, Err}
 use Rattle.pcm.specs.Frames.{Frame}
 use Rattle.pipeline.specs.declared.Pipeline.{Pipeline}
 use Rattle.answers.specs.declared.Answer.{Answer}
@@ -18,8 +17,8 @@ unfoldable pub held_count : ℕ → ℕ
 held_count n = cond (leb n 18446744073709551615) n 18446744073709551615
 
 abbrev pub one_if_accepted : Verdict → ℕ
-one_if_accepted Accepted = 1
-one_if_accepted (Refused e) = 0
+one_if_accepted (Ok tt) = 1
+one_if_accepted (Err e) = 0
 
 -- the accepted blocks in a call on the chain o, after the stream X: one or none
 abbrev pub accepted_by : Pipeline → List Frame → Call → ℕ

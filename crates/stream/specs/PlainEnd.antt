@@ -1,10 +1,8 @@
 -- The plain chain's end (document 02, Q-1): each stage makes all it makes of what it has received, then its last frame. Definitions only.
-use Rattle.std.specs.Prelude.{List, [], ◌∷◌, ◌++◌, ℕ, suc, ◌*◌, leb, length, take, drop}
+use Rattle.std.specs.Prelude.{List, [], ◌∷◌, ◌++◌, ℕ, suc, ◌*◌, leb, length, take, drop, Ok}
 use Rattle.pcm.specs.declared.PcmFormat.{PcmFormat}
 use Rattle.pcm.specs.declared.Error.TheVariants.{BufferTooSmall}
-use Rattle.pcm.specs.declared.Verdict.{Verdict}
-use Rattle.pcm.specs.declared.Verdict.TheVariants.{Accepted}
-use Rattle.pcm.specs.Refusals.{ask}
+use Rattle.pcm.specs.Refusals.{ask, Verdict}
 use Rattle.pcm.specs.Frames.{Frame}
 use Rattle.stage.specs.declared.StageKind.{StageKind}
 use Rattle.stage.specs.declared.StageKind.TheVariants as kind
@@ -50,7 +48,7 @@ plain_room_at_end f k X Y = length (ended_next k X Y) * ((format_after f k).chan
 
 -- at each stage, in chain order, does the shorter half hold it? else 3, with needed = twice that of the first stage short
 unfoldable pub plain_end_room : PcmFormat → List StageKind → List Frame → List Frame → ℕ → Verdict
-plain_end_room f [] X Y shorter = Accepted
+plain_end_room f [] X Y shorter = Ok tt
 plain_end_room f (k ∷ ks) X Y shorter =
     ask (leb (plain_room_at_end f k X Y) shorter) (BufferTooSmall (2 * plain_room_at_end f k X Y))
     (plain_end_room (format_after f k) ks (plain_stage k X) (ended_next k X Y) shorter)

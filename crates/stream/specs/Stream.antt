@@ -1,7 +1,6 @@
 -- The stream that the plain chain is fed, and the calls one after another (document 01, 'The whole stream'; document 02, Q-1). Definitions only.
-use Rattle.std.specs.Prelude.{List, [], ◌∷◌, ◌++◌}
-use Rattle.pcm.specs.declared.Verdict.{Verdict}
-use Rattle.pcm.specs.declared.Verdict.TheVariants.{Accepted, Refused}
+use Rattle.pcm.specs.Refusals.{Verdict}
+use Rattle.std.specs.Prelude.{List, [], ◌∷◌, ◌++◌, Ok, Err}
 use Rattle.pcm.specs.Frames.{Frame, frames_of}
 use Rattle.pipeline.specs.declared.Pipeline.{Pipeline}
 use Rattle.block.specs.BlockCall.{shorter}
@@ -23,13 +22,13 @@ fed (ended X) = []
 
 -- a refused block adds nothing
 abbrev pub added_by : Verdict → List Frame → List Frame
-added_by Accepted Y = Y
-added_by (Refused e) Y = []
+added_by (Ok tt) Y = Y
+added_by (Err e) Y = []
 
 -- an accepted finish ends the stream, a refused one adds nothing
 abbrev pub ended_by : Verdict → List Frame → Stream
-ended_by Accepted X = ended X
-ended_by (Refused e) X = running X
+ended_by (Ok tt) X = ended X
+ended_by (Err e) X = running X
 
 -- the stream X after a call on the chain o: an accepted block's frames are added; reset empties it
 abbrev pub after_feeding : Pipeline → List Frame → Call → Stream

@@ -1,5 +1,5 @@
 -- Document 01, 'On the cupping table': its cases, of the definitions. Assumes nothing.
-use Rattle.std.specs.Prelude.{◌≡◌, refl, true, false, List, [], ◌∷◌, map, ℕ, ◌+◌, ◌-◌, ◌*◌, ◌^◌, pos, Float}
+use Rattle.std.specs.Prelude.{◌≡◌, refl, true, false, List, [], ◌∷◌, map, ℕ, ◌+◌, ◌-◌, ◌*◌, ◌^◌, pos, Float, Ok}
 use Rattle.std.specs.Float.{fin}
 use Rattle.std.specs.Float.Ieee.{neg, of_int, add, sub, mul, round}
 use Rattle.pcm.specs.Integers.{−, nearest_div}
@@ -17,7 +17,6 @@ use Rattle.resample.specs.Resample.{blend, output_at, whole_outputs, among, firs
 use Rattle.rates.specs.Rates.{opened_state, reduced}
 use Rattle.pcm.specs.declared.PcmFormat.{PcmFormat}
 use Rattle.pcm.specs.declared.Error.TheVariants.{UnknownStage}
-use Rattle.pcm.specs.declared.Verdict.TheVariants.{Accepted}
 use Rattle.pcm.specs.Formats.{format_allowed}
 use Rattle.pcm.specs.Refusals.{number_of}
 use Rattle.stage.specs.declared.StageKind.TheVariants as kind
@@ -105,7 +104,7 @@ unknown_stage f = refl
 
 -- (k) 06 00 01 00 00 40 00 00 is gain 16,384
 k : (f : PcmFormat) → format_allowed f ≡ true
-    → open_call f (0x06 ∷ 0x00 ∷ 0x01 ∷ 0x00 ∷ 0x00 ∷ 0x40 ∷ 0x00 ∷ 0x00 ∷ []) ≡ record { verdict = Accepted; chain = chain_of f (stage_as_opened (kind.Gain (record { q15 = pos 16384 })) ∷ []) }
+    → open_call f (0x06 ∷ 0x00 ∷ 0x01 ∷ 0x00 ∷ 0x00 ∷ 0x40 ∷ 0x00 ∷ 0x00 ∷ []) ≡ record { verdict = Ok tt; chain = chain_of f (stage_as_opened (kind.Gain (record { q15 = pos 16384 })) ∷ []) }
 unfolding open_call
 k f h = rw (h, gain_stages f)
 

@@ -1,4 +1,6 @@
 -- The verdict on a block and the figure of `scratch_bytes`, from the walk that asks on words. Assumes nothing.
+use Rattle.std.specs.Prelude.{Ok, Err, Result}
+use Rattle.pcm.specs.Refusals.{Verdict}
 use mathlib.Core.Path.{◌≡◌, sym, ap, ap₂, ◌∙◌, subst}
 use mathlib.Core.Bool.{Bool, true, false, cond}
 use mathlib.Core.List.{List}
@@ -7,12 +9,9 @@ use lib.Dec.{eqb}
 use lib.ListN.{length, take}
 use Rattle.pcm.specs.declared.PcmFormat.{PcmFormat}
 use Rattle.pcm.specs.declared.Error.TheVariants.{InvalidFormat}
-use Rattle.pcm.specs.declared.Verdict.{Verdict}
-use Rattle.pcm.specs.declared.Verdict.TheVariants.{Accepted, Refused}
 use Rattle.pipeline.specs.declared.Pipeline.{Pipeline}
 use Rattle.answers.specs.declared.Answer.{Answer}
 use Rattle.answers.specs.declared.Answer.TheVariants as answer
-use Rattle.answers.specs.declared.Scratch.TheVariants as scratch
 use Rattle.questions.specs.declared.Question.TheVariants.{Block, AnyState}
 use Rattle.questions.specs.declared.Walk.{Walk}
 use Rattle.turns.specs.Turns.{Halves}
@@ -33,11 +32,11 @@ use Rattle.word_block.specs.laws.Heads.{eight, head_stands, same_count, same_for
 
 -- ---- words of no legal head
 module _ (w : List ℕ) (h : legal_head w ≡ false) where
-  pub refused_at : (format : PcmFormat) (size shorter : ℕ) → Refused InvalidFormat ≡ block_verdict (chain_of_words w) format size shorter
+  pub refused_at : (format : PcmFormat) (size shorter : ℕ) → Err InvalidFormat ≡ block_verdict (chain_of_words w) format size shorter
   unfolding block_verdict
   refused_at format size shorter = rw (head_illegal w h)
 
-  pub scratch_refused_at : (size : ℕ) → scratch.Refused InvalidFormat ≡ scratch_bytes (chain_of_words w) size
+  pub scratch_refused_at : (size : ℕ) → Err InvalidFormat ≡ scratch_bytes (chain_of_words w) size
   unfolding scratch_bytes
   scratch_refused_at size = rw (head_illegal w h)
 
@@ -61,7 +60,7 @@ module _ (w : List ℕ) (h : legal_head w ≡ true) (count : ℕ) (own : PcmForm
       ∙ ap (λ (c : Pipeline). scratch_bytes c size) (sym (stands_chain w (head_stands w h)))
 
 -- ---- an accepted block
-pub accepted_stands : (w : List ℕ) (format : PcmFormat) (block a b : List ℕ) → block_verdict (chain_of_words w) format (length block) (shorter a b) ≡ Accepted → stands w ≡ true
+pub accepted_stands : (w : List ℕ) (format : PcmFormat) (block a b : List ℕ) → block_verdict (chain_of_words w) format (length block) (shorter a b) ≡ Ok tt → stands w ≡ true
 accepted_stands w format block a b h = few_stands w (legal_parts (chain_of_words w) (accepts (chain_of_words w) format block a b h).chain).few
 
 -- its answer is no refusal

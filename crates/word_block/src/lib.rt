@@ -14,7 +14,7 @@ ghost use Rattle.chain_words.specs.Layout.{counter_words, counter_at, chain_at, 
 ghost use Rattle.word_block.specs.Words.{legal_head, SettingsStay, WordsAfter};
 
 use answers::{Answer, Scratch};
-use pcm::{Error, PcmFormat, Verdict};
+use pcm::{Error, PcmFormat};
 use questions::{Question, Walk};
 use stage::Stage;
 
@@ -46,11 +46,11 @@ pub fn walked(words: &[u32], count: usize, question: Question, shorter: usize, s
 }
 
 // The verdict on a block of so many bytes, whose shorter half is of `shorter` bytes.
-fn asked(words: &[u32], format: PcmFormat, size: usize, shorter: usize) -> Verdict
+fn asked(words: &[u32], format: PcmFormat, size: usize, shorter: usize) -> Result<(), Error>
     ensures { result ≡ block_verdict (chain_of_words words.now) format size shorter }
 {
     if !legal_head(words) {
-        return Verdict::Refused(Error::InvalidFormat);
+        return Err(Error::InvalidFormat);
     }
     let own = chain_words::format_of(words);
     let count = chain_words::count_of(words);
@@ -112,8 +112,8 @@ pub fn process(
     let shorter = answers::shorter_of(a.len(), b.len());
     let verdict = asked(words, format, sound.len(), shorter);
     match verdict {
-        Verdict::Accepted => play(words, timestamp, sound, a, b),
-        Verdict::Refused(e) => Answer::Refused(e),
+        Ok(()) => play(words, timestamp, sound, a, b),
+        Err(e) => Answer::Refused(e),
     }
 }
 
@@ -130,7 +130,7 @@ pub fn scratch_bytes(words: &[u32], size: usize) -> Scratch
     let walk = walked(words, count, Question::AnyState, size, start);
     let verdict = questions::sized(own, size, walk);
     match verdict {
-        Verdict::Accepted => Scratch::Bytes(2 * walk.largest),
-        Verdict::Refused(e) => Scratch::Refused(e),
+        Ok(()) => Scratch::Bytes(2 * walk.largest),
+        Err(e) => Scratch::Refused(e),
     }
 }

@@ -1,4 +1,6 @@
 -- Laws: the verdict on a finish from the walk that asks on words, and the words after it. Assumes nothing.
+use Rattle.std.specs.Prelude.{Ok, Err}
+use Rattle.pcm.specs.Refusals.{Verdict}
 use mathlib.Core.Path.{◌≡◌, refl, sym, ap, ap₂, ◌∙◌}
 use mathlib.Core.Bool.{Bool, true, false, cond}
 use mathlib.Core.List.{List}
@@ -8,8 +10,6 @@ use lib.ListN.{take}
 use Rattle.pcm.specs.declared.PcmFormat.{PcmFormat}
 use Rattle.pcm.specs.declared.Error.{Error}
 use Rattle.pcm.specs.declared.Error.TheVariants.{InvalidFormat}
-use Rattle.pcm.specs.declared.Verdict.{Verdict}
-use Rattle.pcm.specs.declared.Verdict.TheVariants.{Accepted, Refused}
 use Rattle.pcm.specs.laws.Refusals.{ask_yes}
 use Rattle.pipeline.specs.declared.Pipeline.{Pipeline}
 use Rattle.pipeline.specs.Reset.{reset_call, format_leaving}
@@ -35,7 +35,7 @@ use Rattle.word_block.specs.laws.Heads.{head_stands, same_count, same_format_lem
 use Rattle.word_finish.specs.Words.{sound_words, FinishOutcome, finish_outcome, finish_words}
 
 -- ---- the verdict
-pub refused_at : (w : List ℕ) (shorter : ℕ) → legal_head w ≡ false → Refused InvalidFormat ≡ finish_verdict (chain_of_words w) shorter
+pub refused_at : (w : List ℕ) (shorter : ℕ) → legal_head w ≡ false → Err InvalidFormat ≡ finish_verdict (chain_of_words w) shorter
 unfolding finish_verdict
 refused_at w shorter h = rw (head_illegal w h)
 
@@ -53,15 +53,15 @@ module _ (c : Pipeline) (a b : List ℕ) (short : ℕ) (v : Verdict) (hs : short
   asked : finish_verdict c (shorter a b) ≡ v
   asked = ap (finish_verdict c) (sym hs) ∙ sym h
 
-  pub refused_call : (e : Error) → v ≡ Refused e → record { chain = c; answer = answer.Refused e; a = a; b = b } ≡ finish_call c a b
+  pub refused_call : (e : Error) → v ≡ Err e → record { chain = c; answer = answer.Refused e; a = a; b = b } ≡ finish_call c a b
   unfolding finish_call
   refused_call e k = sym (ap (λ (v : Verdict). finish_concluded v c (halves a b)) (asked ∙ k))
 
-  pub accepted_call : v ≡ Accepted → finished c (halves a b) ≡ finish_call c a b
+  pub accepted_call : v ≡ Ok tt → finished c (halves a b) ≡ finish_call c a b
   unfolding finish_call
   accepted_call k = sym (ap (λ (v : Verdict). finish_concluded v c (halves a b)) (asked ∙ k))
 
-  pub finishes : v ≡ Accepted → Finishes c a b
+  pub finishes : v ≡ Ok tt → Finishes c a b
   unfolding finish_verdict
   finishes k = let p = ask_yes (legal c) InvalidFormat _ (asked ∙ k) in record { chain = p.0; room = p.1 }
 

@@ -10,7 +10,7 @@ ghost use Rattle.chain_words.specs.Layout.{chain_of_words};
 ghost use Rattle.word_finish.specs.Words.{sound_words, reset_outcome, finish_outcome, finish_words};
 
 use answers::{FinishAnswer, FinishTold};
-use pcm::{Error, Verdict};
+use pcm::{Error};
 use questions::Question;
 
 // The sound memory cleared, the counters left alone. Words that stand for no chain are 1, and stay.
@@ -27,11 +27,11 @@ pub fn reset(words: &mut [u32]) -> u16
 }
 
 // The verdict on a finish whose shorter half is of `shorter` bytes, by the walk that asks a block's questions on words.
-fn asked(words: &[u32], shorter: usize) -> Verdict
+fn asked(words: &[u32], shorter: usize) -> Result<(), Error>
     ensures { result ≡ finish_verdict (chain_of_words words.now) shorter }
 {
     if !word_block::legal_head(words) {
-        return Verdict::Refused(Error::InvalidFormat);
+        return Err(Error::InvalidFormat);
     }
     let own = chain_words::format_of(words);
     let count = chain_words::count_of(words);
@@ -60,7 +60,7 @@ pub fn finish(words: &mut [u32], a: &mut [u8], b: &mut [u8]) -> FinishTold
     let shorter = answers::shorter_of(a.len(), b.len());
     let verdict = asked(words, shorter);
     match verdict {
-        Verdict::Refused(e) => FinishAnswer::Refused(e).told(),
-        Verdict::Accepted => play(words, a, b).told(),
+        Err(e) => FinishAnswer::Refused(e).told(),
+        Ok(()) => play(words, a, b).told(),
     }
 }

@@ -1,4 +1,5 @@
 -- Laws: what the walk finds on words, and the answers from it. Assumes nothing.
+use Rattle.std.specs.Prelude.{Ok}
 use mathlib.Core.Path.{◌≡◌, refl, sym, ap, ap₂, ◌∙◌}
 use mathlib.Core.Bool.{true}
 use mathlib.Core.List.{List}
@@ -6,7 +7,6 @@ use Prim.Native.Nat.{ℕ}
 use lib.ListN.{take}
 use Rattle.pcm.specs.declared.PcmFormat.{PcmFormat}
 use Rattle.pcm.specs.declared.Error.TheVariants.{InvalidFormat}
-use Rattle.pcm.specs.declared.Verdict.TheVariants.{Accepted}
 use Rattle.pcm.specs.Refusals.{ask}
 use Rattle.pipeline.specs.declared.Pipeline.{Pipeline}
 use Rattle.questions.specs.declared.Question.{Question}
@@ -55,5 +55,5 @@ module _ (w : List ℕ) (h : legal_head w ≡ true) where
         ∙ ap₂ (λ (f : PcmFormat) (m : ℕ). room_answer (sized_from f m (found Block (chain_of_words w) m)) (found Block (chain_of_words w) m)) same (s ∙ ap (λ (f : PcmFormat). asked_bytes f n) same)
         ∙ block_room_is (chain_of_words w) head_of n (head_parts (chain_of_words w).format (chain_of_words w).count head_of).channels.0
 
-  pub finish_at : (walk : Walk) (r : Room) → walk ≡ finish_found (chain_of_words w) → r ≡ room_answer (ask walk.legal InvalidFormat Accepted) walk → r ≡ finish_room (chain_of_words w)
-  finish_at walk r e k = k ∙ ap (λ (x : Walk). room_answer (ask x.legal InvalidFormat Accepted) x) e ∙ finish_room_is (chain_of_words w) head_of
+  pub finish_at : (walk : Walk) (r : Room) → walk ≡ finish_found (chain_of_words w) → r ≡ room_answer (ask walk.legal InvalidFormat (Ok tt)) walk → r ≡ finish_room (chain_of_words w)
+  finish_at walk r e k = k ∙ ap (λ (x : Walk). room_answer (ask x.legal InvalidFormat (Ok tt)) x) e ∙ finish_room_is (chain_of_words w) head_of

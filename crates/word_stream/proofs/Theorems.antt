@@ -1,8 +1,7 @@
 -- What the definitions come to: the chief theorems of this crate. Assumes nothing.
-use Rattle.std.specs.Prelude.{◌≡◌, List, [], ℕ, ◌≤◌, ◌<◌}
+use Rattle.std.specs.Prelude.{◌≡◌, List, [], ℕ, ◌≤◌, ◌<◌, Ok}
 use Rattle.std.proofs.Common.{sym, ap, ◌∙◌, subst}
 use Rattle.pcm.specs.declared.PcmFormat.{PcmFormat}
-use Rattle.pcm.specs.declared.Verdict.TheVariants.{Accepted}
 use Rattle.pcm.specs.Samples.{All}
 use Rattle.pipeline.specs.declared.Pipeline.{Pipeline}
 use Rattle.pipeline.specs.Opening.{open_call}
@@ -17,7 +16,7 @@ use Rattle.word_stream.proofs.laws.OnWords.{words_as_run}
 
 -- whatever the format and the recipe that opening accepts, the calls, and the blocks and halves that they bring: `start` is what
 -- muzgleur_open promises of the words
-pub whole_stream_on_words : (f : PcmFormat) (recipe : List ℕ) → (open_call f recipe).verdict ≡ Accepted → (w : List ℕ) → chain_of_words w ≡ (open_call f recipe).chain
+pub whole_stream_on_words : (f : PcmFormat) (recipe : List ℕ) → (open_call f recipe).verdict ≡ Ok tt → (w : List ℕ) → chain_of_words w ≡ (open_call f recipe).chain
     → (calls : List Call) → All Lent calls → (r : WordRun) → OnWords (open_call f recipe).chain (running []) (record { words = w; joined = []; clipped = 0 }) calls r
     → WholeStream (open_call f recipe).chain (stream_of (open_call f recipe).chain calls) (run_on_words r)
 whole_stream_on_words f recipe h w start calls lent r on =
@@ -26,7 +25,7 @@ whole_stream_on_words f recipe h w start calls lent r on =
     (whole_stream f recipe h calls lent)
 
 -- document 02, Q-5: what muzgleur_block_room and muzgleur_finish_room answer after such calls is what the next call then does
-module _ (f : PcmFormat) (recipe : List ℕ) (h : (open_call f recipe).verdict ≡ Accepted) (w : List ℕ) (start : chain_of_words w ≡ (open_call f recipe).chain) (calls : List Call) (lent : All Lent calls)
+module _ (f : PcmFormat) (recipe : List ℕ) (h : (open_call f recipe).verdict ≡ Ok tt) (w : List ℕ) (start : chain_of_words w ≡ (open_call f recipe).chain) (calls : List Call) (lent : All Lent calls)
     (r : WordRun) (on : OnWords (open_call f recipe).chain (running []) (record { words = w; joined = []; clipped = 0 }) calls r) where
   chain_is : (run_of (open_call f recipe).chain calls).chain ≡ chain_of_words r.words
   chain_is = ap (λ (x : Run). x.chain) (ap (λ (c : Pipeline). after_calls (open_call f recipe).chain (running []) (fresh c) calls) (sym start) ∙ words_as_run on)

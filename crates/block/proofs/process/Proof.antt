@@ -1,4 +1,5 @@
 -- `block::process` meets its contract: THE BLOCK CALL. Assumes nothing.
+use Rattle.std.specs.Prelude.{Ok}
 use borrow.Author.Rules.{rules}
 use mathlib.Core.Path.{◌≡◌, sym, ap, ◌∙◌}
 use mathlib.Core.Bool.{true}
@@ -7,7 +8,6 @@ use native.Mathlib.Omega.{arith}
 use lib.ListN.{length}
 use Rattle.pcm.specs.Samples.{Bytes}
 use Rattle.pcm.specs.laws.Samples.{all_by_index}
-use Rattle.pcm.specs.declared.Verdict.TheVariants.{Accepted}
 use Rattle.questions.specs.declared.Question.TheVariants.{Block}
 use Rattle.block.specs.BlockCall.{shorter, block_verdict}
 use Rattle.block.specs.laws.Steps.{accepts}
@@ -66,7 +66,7 @@ module _ (e : tie.In_default invariant-loop decreases-loop invariant-loop2 decre
   abbrev b : tie.After-begun-walk invariant-loop decreases-loop invariant-loop2 decreases-loop2
   b = e.before.before.before.before
 
-  accepted : block_verdict (s b).args.chain (s b).args.format (length (s b).args.block.now) (shorter (s b).args.a.now (s b).args.b.now) ≡ Accepted
+  accepted : block_verdict (s b).args.chain (s b).args.format (length (s b).args.block.now) (shorter (s b).args.a.now (s b).args.b.now) ≡ Ok tt
   accepted = asked_all e.before ∙ e.in_default.is
 
   takes : Accepts (s b).args.chain (s b).args.block.now (s b).args.a.now (s b).args.b.now
@@ -98,7 +98,7 @@ process_spec = tie.close (tie.spec
     let v = c.before.before in
     let a = (s v.before.before.before).args in
     with_told a.chain a.format a.timestamp a.block.now a.a.now a.b.now _
-    (refused_is a.chain a.format a.timestamp a.block.now a.a.now a.b.now _ _ _ c.refused-in-Refused.ensures.0 c.refused-in-Refused.ensures.1 (asked_all v ∙ c.in-Refused.is)))
+    (refused_is a.chain a.format a.timestamp a.block.now a.a.now a.b.now _ _ _ c.refused-in-Err.ensures.0 c.refused-in-Err.ensures.1 (asked_all v ∙ c.in-Err.is)))
     (λ c. search rules)
     (λ c κs.
     let e = c.before in

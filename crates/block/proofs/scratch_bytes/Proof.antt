@@ -1,11 +1,11 @@
 -- `block::scratch_bytes` meets its contract. Assumes nothing.
+use Rattle.pcm.specs.Refusals.{Verdict}
 use borrow.Author.Rules.{rules}
 use mathlib.Core.Path.{◌≡◌, sym, ap, ◌∙◌}
 use mathlib.Core.Bool.{true}
 use Prim.Native.Nat.{◌*◌}
 use native.Mathlib.Omega.{arith}
 use lib.ListN.{length}
-use Rattle.pcm.specs.declared.Verdict.{Verdict}
 use Rattle.questions.specs.declared.Question.TheVariants.{AnyState}
 use Rattle.questions.specs.declared.Walk.{Walk}
 use Rattle.pipeline.specs.WritingBack.{stages_of}
@@ -50,7 +50,7 @@ scratch_bytes_spec = tie.close (tie.spec
     (λ c. record { fits = omega (arith, c.walked-walk.ensures.largest) })
     (λ c.
     let v = c.before in
-    with_value _ _ _ (ap (λ (x : Verdict). scratch_answer x (2 * c.walked-walk.result.largest)) (sym c.in-Refused.is) ∙ answers v))
+    with_value _ _ _ (ap (λ (x : Verdict). scratch_answer x (2 * c.walked-walk.result.largest)) (sym c.in-Err.is) ∙ answers v))
     (λ c.
     let v = c.before.before in
-    with_value _ _ _ (ap (λ (x : Verdict). scratch_answer x (2 * c.walked-walk.result.largest)) (sym c.in-Accepted.is) ∙ answers v)))
+    with_value _ _ _ (ap (λ (x : Verdict). scratch_answer x (2 * c.walked-walk.result.largest)) (sym c.in-Ok.is) ∙ answers v)))

@@ -1,8 +1,8 @@
 -- The walk that asks, from one stage to the next and to its end. Assumes nothing.
+use Rattle.pcm.specs.Refusals.{Verdict}
 use Rattle.std.specs.Prelude.{◌≡◌, true, List, ℕ, ◌+◌, ◌≤◌, ◌<◌, leb, ltb, length, take, drop, get_or}
 use Rattle.std.proofs.Common.{sym, ap, ◌∙◌, subst, arith, leb-true, ltb-true}
 use Rattle.pcm.specs.declared.PcmFormat.{PcmFormat}
-use Rattle.pcm.specs.declared.Verdict.{Verdict}
 use Rattle.pcm.specs.Formats.{format_allowed, rate_allowed, channels_allowed}
 use Rattle.stage.specs.declared.Stage.{Stage}
 use Rattle.pcm.specs.laws.Tests.{both}

@@ -1,11 +1,10 @@
 -- The parts of a legal chain; no stage is reached by more frames than fit; halves of the largest room hold every stage's. Assumes nothing.
-use Rattle.std.specs.Prelude.{◌≡◌, refl, Bool, true, false, cond, ◌&&◌, List, [], ◌∷◌, ℕ, ◌+◌, ◌-◌, ◌*◌, ◌≤◌, ◌<◌, eqb, leb, ltb}
+use Rattle.std.specs.Prelude.{◌≡◌, refl, Bool, true, false, cond, ◌&&◌, List, [], ◌∷◌, ℕ, ◌+◌, ◌-◌, ◌*◌, ◌≤◌, ◌<◌, eqb, leb, ltb, Ok}
 use Rattle.std.proofs.Common.{subst, le_antisymm, le_refl, le_trans, div-mul-le_self, mul-le-mul, mul-le-mul_left, le_of_mul-le-mul_right, leb-true, leb-false, le-leb, ltb-true}
 use Rattle.std.proofs.Math.Nat.{mul-le-mul_right}
 use native.Mathlib.Omega.{arith}
 use Rattle.pcm.specs.declared.PcmFormat.{PcmFormat}
 use Rattle.pcm.specs.declared.Error.TheVariants.{BufferTooSmall}
-use Rattle.pcm.specs.declared.Verdict.TheVariants.{Accepted}
 use Rattle.pcm.specs.Formats.{format_allowed, rate_allowed, channels_allowed}
 use Rattle.pcm.specs.Refusals.{ask}
 use Rattle.rates.specs.Counting.{ceil_div}
@@ -149,20 +148,20 @@ unfolding room_wanted
 wanted_room f k n m w = mul-le-mul_right ((format_after f k).channels * 2) w
 
 -- in any state: halves of the largest room hold every stage's
-pub room_suffices : (f : PcmFormat) (l : List Stage) (n m short : ℕ) → suited f l ≡ true → n ≤ m → largest_room f l m ≤ short → rooms_verdict f l n short ≡ Accepted
+pub room_suffices : (f : PcmFormat) (l : List Stage) (n m short : ℕ) → suited f l ≡ true → n ≤ m → largest_room f l m ≤ short → rooms_verdict f l n short ≡ Ok tt
 unfolding rooms_verdict largest_room
 room_suffices f [] n m short u h k = refl
 room_suffices f (s ∷ l) n m short u h k =
     let a = suited_first f s l u in
     let w : frames_wanted s.kind n ≤ frames_wanted s.kind m = wanted_mono s.kind n m (suits_bounded f s.kind s.memory a) h in
     let r : room_wanted f s.kind n ≤ short = le_trans (wanted_room f s.kind n m w) (le_trans (larger_left (room_wanted f s.kind m) (largest_room (format_after f s.kind) l (frames_wanted s.kind m))) k) in
-    let i : rooms_verdict (format_after f s.kind) l (frames_out s.kind s.memory n) short ≡ Accepted =
+    let i : rooms_verdict (format_after f s.kind) l (frames_out s.kind s.memory n) short ≡ Ok tt =
     room_suffices (format_after f s.kind) l (frames_out s.kind s.memory n) (frames_wanted s.kind m) short (suited_rest f s l u)
     (le_trans (wanted_holds f s.memory s.kind n a) w)
     (le_trans (larger_right (room_wanted f s.kind m) (largest_room (format_after f s.kind) l (frames_wanted s.kind m))) k) in
     go (eqb n 0) r i
   where
-    go : (t : Bool) → room_wanted f s.kind n ≤ short → rooms_verdict (format_after f s.kind) l (frames_out s.kind s.memory n) short ≡ Accepted
-        → cond t Accepted (ask (leb (room_wanted f s.kind n) short) (BufferTooSmall (2 * room_wanted f s.kind n)) (rooms_verdict (format_after f s.kind) l (frames_out s.kind s.memory n) short)) ≡ Accepted
+    go : (t : Bool) → room_wanted f s.kind n ≤ short → rooms_verdict (format_after f s.kind) l (frames_out s.kind s.memory n) short ≡ Ok tt
+        → cond t (Ok tt) (ask (leb (room_wanted f s.kind n) short) (BufferTooSmall (2 * room_wanted f s.kind n)) (rooms_verdict (format_after f s.kind) l (frames_out s.kind s.memory n) short)) ≡ Ok tt
     go true r i = refl
     go false r i = rw (le-leb (room_wanted f s.kind n) short r) i

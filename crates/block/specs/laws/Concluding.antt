@@ -1,12 +1,11 @@
 -- From the verdict and the end of the walk that plays to the block call's result. Assumes nothing.
-use Rattle.std.specs.Prelude.{◌≡◌, false, List, ◌++◌, ℕ, zero, suc, length, drop}
+use Rattle.pcm.specs.Refusals.{Verdict}
+use Rattle.std.specs.Prelude.{◌≡◌, false, List, ◌++◌, ℕ, zero, suc, length, drop, Ok, Err}
 use Rattle.std.proofs.Math.Path.{refl, sym, ap₂}
 use Rattle.std.proofs.Common.{ap, ◌∙◌, suc-ne-zero}
 use Rattle.pcm.specs.declared.PcmFormat.{PcmFormat}
 use Rattle.pcm.specs.declared.Error.{Error}
 use Rattle.pcm.specs.declared.Error.TheVariants.{InvalidFormat}
-use Rattle.pcm.specs.declared.Verdict.{Verdict}
-use Rattle.pcm.specs.declared.Verdict.TheVariants.{Accepted, Refused}
 use Rattle.pcm.specs.Samples.{Bytes}
 use Rattle.pcm.specs.Frames.{frames_of, bytes_of}
 use Rattle.stage.specs.declared.Stage.{Stage}
@@ -27,19 +26,19 @@ use Rattle.block.specs.laws.Stages.{with_stages, halves_end}
 use Rattle.block.specs.laws.Walking.{head_illegal}
 
 -- ---- refusals
-pub head_refused : (c : Pipeline) (format : PcmFormat) (size short : ℕ) → head_legal c.format c.count ≡ false → block_verdict c format size short ≡ Refused InvalidFormat
+pub head_refused : (c : Pipeline) (format : PcmFormat) (size short : ℕ) → head_legal c.format c.count ≡ false → block_verdict c format size short ≡ Err InvalidFormat
 unfolding block_verdict
 head_refused c format size short h = rw (head_illegal c h)
 
 module _ (c : Pipeline) (format : PcmFormat) (t : ℕ) (block a b : List ℕ) where
-  pub refused_is : (e : Error) (chain : Pipeline) (answer : Answer) → chain ≡ c → answer ≡ answers.Refused e → block_verdict c format (length block) (shorter a b) ≡ Refused e
+  pub refused_is : (e : Error) (chain : Pipeline) (answer : Answer) → chain ≡ c → answer ≡ answers.Refused e → block_verdict c format (length block) (shorter a b) ≡ Err e
       → record { chain = chain; answer = answer; a = a; b = b } ≡ block_call c format t block a b
   unfolding block_call
   refused_is e chain answer p q h =
       ap₂ (λ (x : Pipeline) (y : Answer). record { chain = x; answer = y; a = a; b = b }) p q
       ∙ sym (ap (λ (v : Verdict). concluded v c t block (record { a = a; b = b })) h)
 
-  pub accepted_call : block_verdict c format (length block) (shorter a b) ≡ Accepted → accepted c t block (halves a b) ≡ block_call c format t block a b
+  pub accepted_call : block_verdict c format (length block) (shorter a b) ≡ Ok tt → accepted c t block (halves a b) ≡ block_call c format t block a b
   unfolding block_call
   accepted_call h = sym (ap (λ (v : Verdict). concluded v c t block (record { a = a; b = b })) h)
 
@@ -86,6 +85,6 @@ module _ (c : Pipeline) (format : PcmFormat) (t : ℕ) (block a b : List ℕ) wh
         ∙ played
 
     pub concludes : (chain : Pipeline) → chain ≡ with_stages c s → (blocks empties : ℕ) (answer : Answer) → blocks ≡ counted_up chain.blocks → empties ≡ counted_if len chain.empty_blocks
-        → answer ≡ output_answer f t (last_half c.count) len clipped → block_verdict c format (length block) (shorter a b) ≡ Accepted
+        → answer ≡ output_answer f t (last_half c.count) len clipped → block_verdict c format (length block) (shorter a b) ≡ Ok tt
         → record { chain = record { stages = chain.stages; count = chain.count; format = chain.format; blocks = blocks; empty_blocks = empties }; answer = answer; a = h.a; b = h.b } ≡ block_call c format t block a b
     concludes chain m blocks empties answer p q r v = concludes_accepted chain m blocks empties answer p q r ∙ accepted_call v

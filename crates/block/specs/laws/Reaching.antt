@@ -1,12 +1,11 @@
 -- From before one stage to before the next, and to the end. Assumes nothing.
-use Rattle.std.specs.Prelude.{◌≡◌, Bool, true, false, cond, List, [], ◌∷◌, ◌++◌, ℕ, zero, suc, ◌+◌, ◌*◌, ◌/◌, ◌%◌, ◌≤◌, ◌<◌, eqb, leb, length, take, drop, get_or, set}
+use Rattle.std.specs.Prelude.{◌≡◌, Bool, true, false, cond, List, [], ◌∷◌, ◌++◌, ℕ, zero, suc, ◌+◌, ◌*◌, ◌/◌, ◌%◌, ◌≤◌, ◌<◌, eqb, leb, length, take, drop, get_or, set, Ok}
 use Rattle.std.proofs.Math.Path.{refl}
 use Rattle.std.proofs.Common.{sym, ap, ap₂, ◌∙◌, subst, append_assoc, mul-pos, mul-div_cancel, div-add-mod', zero-mul, arith, eq-eqb, ne_eqb, leb-true, leb-false, take-append-drop, take-suc-set, drop-set-lt, drop-drop, get_or-drop, length-take-le}
 use Rattle.std.proofs.Math.Nat.{mul-mod_left}
 use Rattle.std.proofs.Math.Decide.{dec_lt}
 use Rattle.std.proofs.Math.Numerals.{add-one}
 use Rattle.pcm.specs.declared.PcmFormat.{PcmFormat}
-use Rattle.pcm.specs.declared.Verdict.TheVariants.{Accepted}
 use Rattle.pcm.specs.Samples.{Bytes}
 use Rattle.pcm.specs.Frames.{Frame, FramesOf, frames_of, bytes_of, written}
 use Rattle.pcm.specs.laws.Frames.{length_bytes, frames_bytes, length_frames, frames_are_frames, front_written, length_written, written-nil}
@@ -186,7 +185,7 @@ module _ (old : List Stage) (count : ℕ) (format : PcmFormat) (block : List ℕ
   pub suit_here : stage_suits f s.kind s.memory ≡ true
   suit_here = suited_first f s rest (sym (ap (suited f) ahead) ∙ r.suit)
 
-  room_all : rooms_verdict f (s ∷ rest) (length r.xs) short ≡ Accepted
+  room_all : rooms_verdict f (s ∷ rest) (length r.xs) short ≡ Ok tt
   room_all = sym (ap (λ (l : List Stage). rooms_verdict f l (length r.xs) short) ahead) ∙ r.room
 
   room_here : room_wanted f s.kind (length r.xs) ≤ short
@@ -304,8 +303,8 @@ module _ (old : List Stage) (count : ℕ) (format : PcmFormat) (block : List ℕ
           long = ap length src ∙ long_out;
           size = size_is;
           suit = subst (λ (k : PcmFormat). suited k rest ≡ true) (sym e) (suited_rest f s rest (sym (ap (suited f) ahead) ∙ r.suit));
-          room = subst (λ (k : PcmFormat). rooms_verdict k rest (length out) short ≡ Accepted) (sym e)
-              (subst (λ (k : ℕ). rooms_verdict (format_after f s.kind) rest k short ≡ Accepted) (sym count_out) (room_rest f s rest (length r.xs) short not_none room_all));
+          room = subst (λ (k : PcmFormat). rooms_verdict k rest (length out) short ≡ Ok tt) (sym e)
+              (subst (λ (k : ℕ). rooms_verdict (format_after f s.kind) rest k short ≡ Ok tt) (sym count_out) (room_rest f s rest (length r.xs) short not_none room_all));
           sides = sides_out;
           makes = makes_out;
           keeps = keeps_out;

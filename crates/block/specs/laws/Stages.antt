@@ -1,5 +1,5 @@
 -- The walk that plays: what holds before each stage, from one stage to the next, and at the end. Assumes nothing.
-use Rattle.std.specs.Prelude.{◌≡◌, ◌⊎◌, Bool, true, false, cond, ℕ, ◌+◌, ◌-◌, ◌*◌, ◌≤◌, ◌<◌, eqb, leb, length, take, drop, get_or, set}
+use Rattle.std.specs.Prelude.{◌≡◌, ◌⊎◌, Bool, true, false, cond, ℕ, ◌+◌, ◌-◌, ◌*◌, ◌≤◌, ◌<◌, eqb, leb, length, take, drop, get_or, set, Ok}
 use Rattle.std.proofs.Math.Path.{refl, ap, subst}
 use Rattle.std.proofs.Common.{sym, ◌∙◌, inl, inr, ⊎_elim, le_refl, arith, eq-eqb, ne_eqb, eqb-true, leb-true, length-set}
 use mathlib.Core.List.{List, ◌++◌}
@@ -7,7 +7,6 @@ use Rattle.std.proofs.lemmas.Bool.{eqb-false}
 use Rattle.std.proofs.lemmas.List.{set-get_or}
 use Rattle.pcm.specs.declared.PcmFormat.{PcmFormat}
 use Rattle.pcm.specs.declared.Error.TheVariants.{BufferTooSmall}
-use Rattle.pcm.specs.declared.Verdict.TheVariants.{Accepted}
 use Rattle.pcm.specs.Refusals.{ask}
 use Rattle.pcm.specs.Samples.{Bytes}
 use Rattle.pcm.specs.Frames.{Frame, FramesOf, frames_of, bytes_of, written}
@@ -216,9 +215,9 @@ module _ (old : Pipeline) (count : ℕ) (format : PcmFormat) (block : List ℕ) 
 -- ---- before the first stage
 pub copy_room_lem : (c : Pipeline) (block a b : List ℕ) → c.count ≡ 0 → Accepts c block a b → length block ≤ shorter a b
 copy_room_lem c block a b z w =
-    let h : ask (leb (length block) (shorter a b)) (BufferTooSmall (2 * length block)) Accepted ≡ Accepted =
+    let h : ask (leb (length block) (shorter a b)) (BufferTooSmall (2 * length block)) (Ok tt) ≡ Ok tt =
     sym (ap (λ (l : List Stage). halves_verdict c.format l (length block) (shorter a b)) (no_stages c z)) ∙ w.room in
-    leb-true (length block) (shorter a b) (ask_yes (leb (length block) (shorter a b)) (BufferTooSmall (2 * length block)) Accepted h).0
+    leb-true (length block) (shorter a b) (ask_yes (leb (length block) (shorter a b)) (BufferTooSmall (2 * length block)) (Ok tt) h).0
 
 module _ (c : Pipeline) (block a b : List ℕ) (w : Accepts c block a b) (len : length c.stages ≡ 8) (bytes : Bytes block) where
   -- no stages: nothing is left to do

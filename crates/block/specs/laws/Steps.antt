@@ -1,10 +1,9 @@
 -- What an accepted block shows, the stages from stage i + 1 on, and the room question one stage at a time. Assumes nothing.
-use Rattle.std.specs.Prelude.{◌≡◌, refl, List, [], ◌∷◌, ℕ, ◌+◌, ◌*◌, ◌/◌, ◌≤◌, ◌<◌, leb, ltb, length, take, drop, get_or}
+use Rattle.std.specs.Prelude.{◌≡◌, refl, List, [], ◌∷◌, ℕ, ◌+◌, ◌*◌, ◌/◌, ◌≤◌, ◌<◌, leb, ltb, length, take, drop, get_or, Ok, Err}
 use Rattle.std.proofs.Common.{sym, ap₂, ◌∙◌, add-one, arith, drop_of_length-le, length-take, drop-cons, get_or-take, length-take-le}
 use borrow.Author.Tests.{le-leb, lt-leb, eq-eqb, ne_eqb, leb-true, ltb-true, eqb-true}
 use Rattle.pcm.specs.declared.PcmFormat.{PcmFormat}
 use Rattle.pcm.specs.declared.Error.TheVariants.{InvalidFormat, Unsupported, BufferTooSmall, InvalidGeometry, TooLong}
-use Rattle.pcm.specs.declared.Verdict.TheVariants.{Accepted, Refused}
 use Rattle.stage.specs.declared.Stage.{Stage}
 use Rattle.stage.specs.Stages.{format_after}
 use Rattle.pcm.specs.laws.Tests.{both}
@@ -29,7 +28,7 @@ drop_zero [] = refl
 drop_zero (x ∷ l) = refl
 
 -- every question of a block was answered yes
-pub accepts : (c : Pipeline) (format : PcmFormat) (block a b : List ℕ) → block_verdict c format (length block) (shorter a b) ≡ Accepted → Accepts c block a b
+pub accepts : (c : Pipeline) (format : PcmFormat) (block a b : List ℕ) → block_verdict c format (length block) (shorter a b) ≡ Ok tt → Accepts c block a b
 unfolding block_verdict
 accepts c format block a b h =
     let p = ask_yes (legal c) InvalidFormat _ h in
@@ -41,11 +40,11 @@ accepts c format block a b h =
 
 module _ (f : PcmFormat) (s : Stage) (rest : List Stage) where
   module _ (n shorter : ℕ) where
-    pub room_none : n ≡ 0 → rooms_verdict f (s ∷ rest) n shorter ≡ Accepted
+    pub room_none : n ≡ 0 → rooms_verdict f (s ∷ rest) n shorter ≡ Ok tt
     unfolding rooms_verdict
     room_none h = rw (eq-eqb n 0 h)
 
-    pub room_short : (room : ℕ) → (n ≡ 0 → ⊥) → room ≡ room_wanted f s.kind n → shorter < room → rooms_verdict f (s ∷ rest) n shorter ≡ Refused (BufferTooSmall (2 * room))
+    pub room_short : (room : ℕ) → (n ≡ 0 → ⊥) → room ≡ room_wanted f s.kind n → shorter < room → rooms_verdict f (s ∷ rest) n shorter ≡ Err (BufferTooSmall (2 * room))
     unfolding rooms_verdict
     room_short room h e l = rw (ne_eqb n 0 h, ← e, lt-leb room shorter l)
 
@@ -55,10 +54,10 @@ module _ (f : PcmFormat) (s : Stage) (rest : List Stage) where
     room_next room m g h e l i j = rw (ne_eqb n 0 h, ← e, le-leb room shorter l, i, j)
 
     -- what an accepted block's stage finds
-    pub room_first : (n ≡ 0 → ⊥) → rooms_verdict f (s ∷ rest) n shorter ≡ Accepted → room_wanted f s.kind n ≤ shorter
+    pub room_first : (n ≡ 0 → ⊥) → rooms_verdict f (s ∷ rest) n shorter ≡ Ok tt → room_wanted f s.kind n ≤ shorter
     unfolding rooms_verdict
     room_first h e = leb-true _ _ (ask_yes (leb (room_wanted f s.kind n) shorter) _ _ (rw (ne_eqb n 0 h) at e)).0
 
-    pub room_rest : (n ≡ 0 → ⊥) → rooms_verdict f (s ∷ rest) n shorter ≡ Accepted → rooms_verdict (format_after f s.kind) rest (frames_out s.kind s.memory n) shorter ≡ Accepted
+    pub room_rest : (n ≡ 0 → ⊥) → rooms_verdict f (s ∷ rest) n shorter ≡ Ok tt → rooms_verdict (format_after f s.kind) rest (frames_out s.kind s.memory n) shorter ≡ Ok tt
     unfolding rooms_verdict
     room_rest h e = (ask_yes (leb (room_wanted f s.kind n) shorter) _ _ (rw (ne_eqb n 0 h) at e)).1

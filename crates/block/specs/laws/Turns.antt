@@ -1,7 +1,6 @@
 -- What holds of an accepted block after one stage's turn, before each stage and past the last. Assumes nothing.
-use Rattle.std.specs.Prelude.{◌≡◌, true, List, ◌++◌, ℕ, ◌*◌, ◌≤◌, ◌<◌, length, take, drop}
+use Rattle.std.specs.Prelude.{◌≡◌, true, List, ◌++◌, ℕ, ◌*◌, ◌≤◌, ◌<◌, length, take, drop, Ok}
 use Rattle.pcm.specs.declared.PcmFormat.{PcmFormat}
-use Rattle.pcm.specs.declared.Verdict.TheVariants.{Accepted}
 use Rattle.pcm.specs.Frames.{Frame, FramesOf, frames_of, bytes_of}
 use Rattle.stage.specs.declared.Stage.{Stage}
 use Rattle.stage.specs.Stages.{stage_out, stage_next, format_after}
@@ -37,7 +36,7 @@ pub record Reached (old : List Stage) (count : ℕ) (format : PcmFormat) (block 
   pub long : length (source_at i n block h) ≡ length xs * (f.channels * 2)
   pub size : n ≡ length (bytes_of xs)
   pub suit : suited f (drop i (take count old)) ≡ true
-  pub room : rooms_verdict f (drop i (take count old)) (length xs) shorter ≡ Accepted
+  pub room : rooms_verdict f (drop i (take count old)) (length xs) shorter ≡ Ok tt
   pub sides : passed 0 (take count old) (frames_of format.channels block) before ≡ passed i (drop i (take count old)) xs h
   pub makes : chain_out (take count old) (frames_of format.channels block) ≡ chain_out (drop i (take count old)) xs
   pub keeps : chain_next (take count old) (frames_of format.channels block) ++ drop count old

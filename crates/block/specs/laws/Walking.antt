@@ -1,5 +1,5 @@
 -- The walk that asks: its figures fit, it is legal where the stages suit, and what it finds is the block's verdict and `scratch_bytes`' figure. Assumes nothing.
-use Rattle.std.specs.Prelude.{◌≡◌, Bool, ◌&&◌, ℕ, ◌+◌, ◌*◌, ◌/◌, ◌%◌, ◌≤◌, ◌<◌, eqb, leb, ltb}
+use Rattle.std.specs.Prelude.{◌≡◌, Bool, ◌&&◌, ℕ, ◌+◌, ◌*◌, ◌/◌, ◌%◌, ◌≤◌, ◌<◌, eqb, leb, ltb, Ok, Err}
 use Rattle.std.proofs.Math.Path.{refl, sym, ap, ap₂}
 use Rattle.std.proofs.Common.{◌∙◌, le_refl, mul-le-mul, div-add-mod'}
 use Rattle.std.proofs.Math.Bool.{true, false, cond}
@@ -9,10 +9,8 @@ use native.Mathlib.Omega.{arith}
 use borrow.Author.Tests.{leb-true, leb-false, le-leb, lt-leb, eqb-true, eqb-false, eq-eqb, ne_eqb}
 use Rattle.pcm.specs.declared.PcmFormat.{PcmFormat}
 use Rattle.pcm.specs.declared.Error.TheVariants.{InvalidFormat, Unsupported, BufferTooSmall, InvalidGeometry, TooLong}
-use Rattle.pcm.specs.declared.Verdict.{Verdict}
-use Rattle.pcm.specs.declared.Verdict.TheVariants.{Accepted, Refused}
 use Rattle.pcm.specs.Formats.{format_allowed}
-use Rattle.pcm.specs.Refusals.{ask, and_then}
+use Rattle.pcm.specs.Refusals.{ask, and_then, Verdict}
 use Rattle.stage.specs.declared.Stage.{Stage}
 use Rattle.stage.specs.Stages.{format_after}
 use Rattle.pcm.specs.laws.Tests.{both}
@@ -23,7 +21,6 @@ use Rattle.questions.specs.declared.Question.{Question}
 use Rattle.questions.specs.declared.Question.TheVariants.{Block, AnyState}
 use Rattle.questions.specs.declared.Due.{Due}
 use Rattle.questions.specs.declared.Walk.{Walk}
-use Rattle.answers.specs.declared.Scratch.TheVariants as scratch
 use Rattle.block.specs.BlockCall.{legal, suited, rooms_verdict, halves_verdict, size_asked, block_verdict, largest_room, scratch_answer, scratch_figure, scratch_bytes}
 use Rattle.pipeline.specs.WritingBack.{stages_of}
 use Rattle.questions.specs.Walk.{whole_frames, same_format, larger, head_legal, size_verdict, block_frames, due_of, first_short, room_of, further, illegal, stepped, copy_room, begun, walked, sized_from, verdict_from}
@@ -137,21 +134,21 @@ module _ (q : Question) (shorter : ℕ) where
 
 -- ---- the first stage short
 abbrev pub short_verdict : ℕ → Verdict
-short_verdict short = ask (eqb short 0) (BufferTooSmall (2 * short)) Accepted
+short_verdict short = ask (eqb short 0) (BufferTooSmall (2 * short)) (Ok tt)
 
-none_reached : (f : PcmFormat) (l : List Stage) (shorter : ℕ) → rooms_verdict f l 0 shorter ≡ Accepted
+none_reached : (f : PcmFormat) (l : List Stage) (shorter : ℕ) → rooms_verdict f l 0 shorter ≡ Ok tt
 unfolding rooms_verdict
 none_reached f [] shorter = refl
 none_reached f (s ∷ l) shorter = refl
 
 -- what the room question gives once the walk has found `short`
 abbrev pub short_then : ℕ → Verdict → Verdict
-short_then short v = cond (eqb short 0) v (Refused (BufferTooSmall (2 * short)))
+short_then short v = cond (eqb short 0) v (Err (BufferTooSmall (2 * short)))
 
 pub then_none : (short : ℕ) (v : Verdict) → short ≡ 0 → short_then short v ≡ v
 then_none short v z = rw (eq-eqb short 0 z)
 
-pub then_short : (short : ℕ) (v : Verdict) → (short ≡ 0 → ⊥) → short_then short v ≡ Refused (BufferTooSmall (2 * short))
+pub then_short : (short : ℕ) (v : Verdict) → (short ≡ 0 → ⊥) → short_then short v ≡ Err (BufferTooSmall (2 * short))
 then_short short v z = rw (ne_eqb short 0 z)
 
 module _ (shorter short room : ℕ) where
@@ -239,7 +236,7 @@ module _ (shorter : ℕ) where
   unfolding rooms_verdict
   no_more w = go (eqb w.short 0)
     where
-      go : (t : Bool) → ask t (BufferTooSmall (2 * w.short)) Accepted ≡ cond t Accepted (Refused (BufferTooSmall (2 * w.short)))
+      go : (t : Bool) → ask t (BufferTooSmall (2 * w.short)) (Ok tt) ≡ cond t (Ok tt) (Err (BufferTooSmall (2 * w.short)))
       go true = refl
       go false = refl
 
@@ -270,7 +267,7 @@ module _ (shorter : ℕ) where
 whole_size : (n k : ℕ) → n % k ≡ 0 → n / k * k ≡ n
 whole_size n k h = omega (arith, div-add-mod' n k)
 
-module _ (f : PcmFormat) (size : ℕ) (h : size_verdict f size ≡ Accepted) where
+module _ (f : PcmFormat) (size : ℕ) (h : size_verdict f size ≡ Ok tt) where
   pub frames_are : block_frames f size ≡ size / (f.channels * 2)
   unfolding block_frames
   frames_are = rw h
@@ -279,7 +276,7 @@ module _ (f : PcmFormat) (size : ℕ) (h : size_verdict f size ≡ Accepted) whe
   unfolding size_verdict
   whole_is = go (whole_frames f size) (leb (size / (f.channels * 2)) 8192) h
     where
-      go : (t u : Bool) → ask t InvalidGeometry (ask u TooLong Accepted) ≡ Accepted → t ≡ true
+      go : (t u : Bool) → ask t InvalidGeometry (ask u TooLong (Ok tt)) ≡ Ok tt → t ≡ true
       go true u e = refl
       go false u e = cc
 
@@ -303,7 +300,7 @@ module _ (c : Pipeline) (size : ℕ) (head : head_legal c.format c.count ≡ tru
   unfolding size_verdict
   sized_then t next = go t (whole_frames c.format size) (leb (size / (c.format.channels * 2)) 8192)
     where
-      go : (t u v : Bool) → ask t InvalidFormat (ask u InvalidGeometry (ask v TooLong next)) ≡ and_then (ask t InvalidFormat (ask u InvalidGeometry (ask v TooLong Accepted))) next
+      go : (t u v : Bool) → ask t InvalidFormat (ask u InvalidGeometry (ask v TooLong next)) ≡ and_then (ask t InvalidFormat (ask u InvalidGeometry (ask v TooLong (Ok tt)))) next
       go true true true = refl
       go true true false = refl
       go true false v = refl
@@ -317,9 +314,9 @@ module _ (c : Pipeline) (size : ℕ) (head : head_legal c.format c.count ≡ tru
       sized_then (legal c) next
       ∙ ap (λ (t : Bool). and_then (ask t InvalidFormat (size_verdict c.format size)) next) (legal_is ∙ sym (walked_legal q shorter w (stages_of c) h ∙ ap (λ (f : PcmFormat). suited f (stages_of c)) e))
 
-after_same : (v a b : Verdict) → (v ≡ Accepted → a ≡ b) → and_then v a ≡ and_then v b
-after_same Accepted a b h = h refl
-after_same (Refused e) a b h = refl
+after_same : (v a b : Verdict) → (v ≡ Ok tt → a ≡ b) → and_then v a ≡ and_then v b
+after_same (Ok tt) a b h = h refl
+after_same (Err e) a b h = refl
 
 -- what a walk begins with, of any number of stages and any halves
 pub record Begins (f : PcmFormat) (size : ℕ) (w : Walk) : Type 0 where
@@ -351,7 +348,7 @@ module _ (c : Pipeline) (format : PcmFormat) (size shorter : ℕ) (head : head_l
   first_room room = refl
 
   -- the room question, where the size is legal and every stage suits
-  room_is : suited c.format (stages_of c) ≡ true → size_verdict c.format size ≡ Accepted
+  room_is : suited c.format (stages_of c) ≡ true → size_verdict c.format size ≡ Ok tt
       → halves_verdict c.format (stages_of c) size shorter ≡ short_verdict (walked Block shorter start (stages_of c)).short
   unfolding walked
   room_is u h = go (stages_of c) refl
@@ -362,14 +359,14 @@ module _ (c : Pipeline) (format : PcmFormat) (size shorter : ℕ) (head : head_l
       moved : (c.count ≡ 0 → ⊥) → start.short ≡ 0
       moved z = start_short ∙ ap (first_short shorter 0) (rw (ne_eqb c.count 0 z)) ∙ first_room 0 ∙ none_wanted (leb 0 shorter)
 
-      copy_verdict : (t : Bool) → leb size shorter ≡ t → ask t (BufferTooSmall (2 * size)) Accepted ≡ short_verdict (cond t 0 size)
+      copy_verdict : (t : Bool) → leb size shorter ≡ t → ask t (BufferTooSmall (2 * size)) (Ok tt) ≡ short_verdict (cond t 0 size)
       copy_verdict true e = refl
       copy_verdict false e = let m : shorter < size = leb-false size shorter e in rw (ne_eqb size 0 (λ z. let b : ⊥ = omega arith in b))
 
       go : (l : List Stage) → stages_of c ≡ l → halves_verdict c.format l size shorter ≡ short_verdict (walked Block shorter start l).short
       go [] e = at (eqb c.count 0) refl
         where
-          at : (t : Bool) → eqb c.count 0 ≡ t → ask (leb size shorter) (BufferTooSmall (2 * size)) Accepted ≡ short_verdict start.short
+          at : (t : Bool) → eqb c.count 0 ≡ t → ask (leb size shorter) (BufferTooSmall (2 * size)) (Ok tt) ≡ short_verdict start.short
           at true k = copy_verdict (leb size shorter) refl ∙ ap short_verdict (sym (copied (eqb-true _ _ k)))
           at false k = absurd (some (eqb-false _ _ k) e)
       go (s ∷ l) e = at (eqb c.count 0) refl
@@ -389,14 +386,14 @@ module _ (c : Pipeline) (format : PcmFormat) (size shorter : ℕ) (head : head_l
       ∙ after_same (sized_from c.format size (walked Block shorter start (stages_of c))) _ _
       (λ h. ap (ask (same_format c.format format) Unsupported) (room_is (suited_here h) (sized_here h))))
     where
-      parts : (t : Bool) → ask t InvalidFormat (size_verdict c.format size) ≡ Accepted → (t ≡ true) × (size_verdict c.format size ≡ Accepted)
+      parts : (t : Bool) → ask t InvalidFormat (size_verdict c.format size) ≡ Ok tt → (t ≡ true) × (size_verdict c.format size ≡ Ok tt)
       parts true e = (refl, e)
       parts false e = (cc, cc)
 
-      suited_here : sized_from c.format size (walked Block shorter start (stages_of c)) ≡ Accepted → suited c.format (stages_of c) ≡ true
+      suited_here : sized_from c.format size (walked Block shorter start (stages_of c)) ≡ Ok tt → suited c.format (stages_of c) ≡ true
       suited_here h = sym (walked_legal Block shorter start (stages_of c) at_start.legal ∙ ap (λ (f : PcmFormat). suited f (stages_of c)) at_start.format) ∙ (parts (walked Block shorter start (stages_of c)).legal h).0
 
-      sized_here : sized_from c.format size (walked Block shorter start (stages_of c)) ≡ Accepted → size_verdict c.format size ≡ Accepted
+      sized_here : sized_from c.format size (walked Block shorter start (stages_of c)) ≡ Ok tt → size_verdict c.format size ≡ Ok tt
       sized_here h = (parts (walked Block shorter start (stages_of c)).legal h).1
 
 -- ---- and `scratch_bytes`' figure
@@ -409,17 +406,17 @@ head_illegal c h = go (leb c.count 8) (format_allowed c.format) h
     go true false e = refl
     go false u e = refl
 
-pub scratch_refused : (c : Pipeline) (size : ℕ) → head_legal c.format c.count ≡ false → scratch.Refused InvalidFormat ≡ scratch_bytes c size
+pub scratch_refused : (c : Pipeline) (size : ℕ) → head_legal c.format c.count ≡ false → Err InvalidFormat ≡ scratch_bytes c size
 unfolding scratch_bytes
 scratch_refused c size h = rw (head_illegal c h)
 
-same_figure : (v : Verdict) (m n : ℕ) → (v ≡ Accepted → m ≡ n) → scratch_answer v m ≡ scratch_answer v n
-same_figure Accepted m n h = ap scratch.Bytes (h refl)
-same_figure (Refused e) m n h = refl
+same_figure : (v : Verdict) (m n : ℕ) → (v ≡ Ok tt → m ≡ n) → scratch_answer v m ≡ scratch_answer v n
+same_figure (Ok tt) m n h = ap Ok (h refl)
+same_figure (Err e) m n h = refl
 
-after_none : (v : Verdict) → and_then v Accepted ≡ v
-after_none Accepted = refl
-after_none (Refused e) = refl
+after_none : (v : Verdict) → and_then v (Ok tt) ≡ v
+after_none (Ok tt) = refl
+after_none (Err e) = refl
 
 module _ (c : Pipeline) (size : ℕ) (head : head_legal c.format c.count ≡ true) where
   abbrev first : Walk
@@ -432,11 +429,11 @@ module _ (c : Pipeline) (size : ℕ) (head : head_legal c.format c.count ≡ tru
   unfolding begun
   first_largest = refl
 
-  parts : (t : Bool) → ask t InvalidFormat (size_verdict c.format size) ≡ Accepted → (t ≡ true) × (size_verdict c.format size ≡ Accepted)
+  parts : (t : Bool) → ask t InvalidFormat (size_verdict c.format size) ≡ Ok tt → (t ≡ true) × (size_verdict c.format size ≡ Ok tt)
   parts true e = (refl, e)
   parts false e = (cc, cc)
 
-  figure_is : sized_from c.format size (walked AnyState size first (stages_of c)) ≡ Accepted
+  figure_is : sized_from c.format size (walked AnyState size first (stages_of c)) ≡ Ok tt
       → (walked AnyState size first (stages_of c)).largest ≡ larger size (largest_room c.format (stages_of c) (size / (c.format.channels * 2)))
   unfolding sized_from
   figure_is h =
@@ -450,4 +447,4 @@ module _ (c : Pipeline) (size : ℕ) (head : head_legal c.format c.count ≡ tru
   scratch_is =
       same_figure (sized_from c.format size (walked AnyState size first (stages_of c))) _ _ (λ h. ap (λ (n : ℕ). 2 * n) (figure_is h))
       ∙ ap (λ (v : Verdict). scratch_answer v (scratch_figure c size))
-      (sym (asked_is c size head AnyState size first Accepted at_first.legal at_first.format ∙ after_none (sized_from c.format size (walked AnyState size first (stages_of c)))))
+      (sym (asked_is c size head AnyState size first (Ok tt) at_first.legal at_first.format ∙ after_none (sized_from c.format size (walked AnyState size first (stages_of c)))))

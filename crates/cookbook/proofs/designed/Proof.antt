@@ -1,11 +1,11 @@
 -- `cookbook::designed` meets its contract. Assumes nothing.
+use Rattle.std.specs.Prelude.{Ok}
 use Rattle.std.proofs.Common.{ap, rules}
-use Rattle.cookbook.specs.declared.DesignAnswer.TheVariants.{Designed}
 use Rattle.cookbook.proofs.designed.Statement.{statement}
 use Rattle.cookbook.proofs.designed.Tie as tie
 
 returns : tie.Need-returns-then-allowed
-returns c = rw c.if-allowed.true (ap Designed c.normalise.ensures)
+returns c = rw c.if-allowed.true (ap Ok c.normalise.ensures)
 
 returns-2 : tie.Need-returns
 returns-2 c = rw c.if-allowed.false

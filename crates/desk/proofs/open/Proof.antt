@@ -1,9 +1,9 @@
 -- `desk::open` meets its contract. Assumes nothing.
+use Rattle.std.specs.Prelude.{Err}
 use borrow.Author.Rules.{rules}
 use mathlib.Core.Path.{ap}
 use borrow.Author.Tests.{le-leb, lt-leb}
 use Rattle.pcm.specs.declared.Error.TheVariants.{TooLong}
-use Rattle.pcm.specs.declared.Verdict.TheVariants.{Refused}
 use Rattle.pipeline.specs.declared.Opened.{Opened}
 use Rattle.desk.specs.Desk.{desk_verdict, desk_open}
 use Rattle.desk.proofs.open.Statement.{statement}
@@ -11,7 +11,7 @@ use Rattle.desk.proofs.open.Tie as tie
 
 -- too long, whatever opening came to
 abbrev too_long : Opened → Opened
-too_long o = record { verdict = Refused TooLong; chain = o.chain }
+too_long o = record { verdict = Err TooLong; chain = o.chain }
 
 returns : tie.Need-returns-then-recipe-gt-MAX_FILE
 unfolding desk_verdict desk_open

@@ -1,26 +1,26 @@
 -- `finish::verdict` meets its contract. Assumes nothing.
+use Rattle.std.specs.Prelude.{Ok, Err}
 use borrow.Author.Rules.{rules}
 use borrow.Author.Tests.{eq-eqb, ne_eqb, not-true, not-false}
 use mathlib.Core.Path.{◌≡◌}
 use mathlib.Core.Bool.{true, false}
 use Prim.Native.Nat.{◌*◌}
 use Rattle.pcm.specs.declared.Error.TheVariants.{InvalidFormat, BufferTooSmall}
-use Rattle.pcm.specs.declared.Verdict.TheVariants.{Accepted, Refused}
 use Rattle.questions.specs.declared.Walk.{Walk}
 use Rattle.finish.specs.Turns.{end_from}
 use Rattle.finish.proofs.verdict.Statement.{statement}
 use Rattle.finish.proofs.verdict.Tie as tie
 
 module _ (w : Walk) where
-  not_legal : w.legal ≡ false → Refused InvalidFormat ≡ end_from w
+  not_legal : w.legal ≡ false → Err InvalidFormat ≡ end_from w
   unfolding end_from
   not_legal h = rw h
 
-  too_short : w.legal ≡ true → (w.short ≡ 0 → ⊥) → Refused (BufferTooSmall (2 * w.short)) ≡ end_from w
+  too_short : w.legal ≡ true → (w.short ≡ 0 → ⊥) → Err (BufferTooSmall (2 * w.short)) ≡ end_from w
   unfolding end_from
   too_short h z = rw (h, ne_eqb w.short 0 z)
 
-  placed : w.legal ≡ true → w.short ≡ 0 → Accepted ≡ end_from w
+  placed : w.legal ≡ true → w.short ≡ 0 → (Ok tt) ≡ end_from w
   unfolding end_from
   placed h z = rw (h, eq-eqb w.short 0 z)
 

@@ -1,8 +1,7 @@
 -- Laws of the chain's end (document 02, Q-1). Assumes nothing.
-use Rattle.std.specs.Prelude.{◌≡◌, refl, true, List, [], ◌∷◌, ◌++◌, map, ℕ, suc, ◌+◌, ◌*◌, length}
+use Rattle.std.specs.Prelude.{◌≡◌, refl, true, List, [], ◌∷◌, ◌++◌, map, ℕ, suc, ◌+◌, ◌*◌, length, Ok}
 use Rattle.std.proofs.Common.{sym, ap, ap₂, ◌∙◌, append-nil, arith, zero-mul, le-leb}
 use Rattle.pcm.specs.declared.PcmFormat.{PcmFormat}
-use Rattle.pcm.specs.declared.Verdict.TheVariants.{Accepted}
 use Rattle.pcm.specs.Frames.{Frame, bytes_of}
 use Rattle.stage.specs.declared.Stage.{Stage}
 use Rattle.stage.specs.declared.StageKind.{StageKind}
@@ -65,7 +64,7 @@ end_clipped_opened f (k ∷ ks) =
     omega (arith, stage_clipped-nil (stage_as_opened k), ap (end_clipped (format_after f k) (map stage_as_opened ks)) (stage_end_opened f.channels k), end_clipped_opened (format_after f k) ks)
 
 -- and is accepted with any halves, empty ones too
-pub end_room_opened : (f : PcmFormat) (ks : List StageKind) (shorter : ℕ) → suited f (map stage_as_opened ks) ≡ true → end_verdict f (map stage_as_opened ks) 0 shorter ≡ Accepted
+pub end_room_opened : (f : PcmFormat) (ks : List StageKind) (shorter : ℕ) → suited f (map stage_as_opened ks) ≡ true → end_verdict f (map stage_as_opened ks) 0 shorter ≡ Ok tt
 unfolding end_verdict room_at_end
 end_room_opened f [] shorter h = refl
 end_room_opened f (k ∷ ks) shorter h =

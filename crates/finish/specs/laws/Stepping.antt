@@ -1,15 +1,13 @@
 -- The questions of a finish, one stage at a time, and that the walk asks them. Assumes nothing.
-use Rattle.std.specs.Prelude.{◌≡◌, Bool, cond, ◌&&◌, List, [], ◌∷◌, ℕ, ◌*◌, ◌≤◌, ◌<◌, eqb, leb}
+use Rattle.std.specs.Prelude.{◌≡◌, Bool, cond, ◌&&◌, List, [], ◌∷◌, ℕ, ◌*◌, ◌≤◌, ◌<◌, eqb, leb, Ok, Err}
 use Rattle.std.proofs.Math.Path.{refl, ap}
 use Rattle.std.proofs.Common.{sym, ap₂, ◌∙◌, zero-mul, arith}
 use Rattle.std.proofs.Math.Bool.{true, false}
 use borrow.Author.Tests.{le-leb, lt-leb, leb-true, leb-false, eqb-true, eqb-false}
 use Rattle.pcm.specs.declared.PcmFormat.{PcmFormat}
 use Rattle.pcm.specs.declared.Error.TheVariants.{InvalidFormat, BufferTooSmall}
-use Rattle.pcm.specs.declared.Verdict.{Verdict}
-use Rattle.pcm.specs.declared.Verdict.TheVariants.{Accepted, Refused}
 use Rattle.pcm.specs.Formats.{format_allowed}
-use Rattle.pcm.specs.Refusals.{ask}
+use Rattle.pcm.specs.Refusals.{ask, Verdict}
 use Rattle.stage.specs.declared.Stage.{Stage}
 use Rattle.stage.specs.Stages.{format_after}
 use Rattle.ending.specs.StageEnd.{frames_at_end}
@@ -25,12 +23,12 @@ use Rattle.block.specs.laws.Bounds.{suited_rest}
 use Rattle.finish.specs.FinishCall.{room_at_end, end_verdict, finish_verdict}
 use Rattle.finish.specs.Turns.{end_from}
 
-end_none : (f : PcmFormat) (n shorter : ℕ) → end_verdict f [] n shorter ≡ Accepted
+end_none : (f : PcmFormat) (n shorter : ℕ) → end_verdict f [] n shorter ≡ Ok tt
 unfolding end_verdict
 end_none f n shorter = refl
 
 module _ (f : PcmFormat) (s : Stage) (rest : List Stage) (n shorter : ℕ) where
-  end_short : (room : ℕ) → room ≡ room_at_end f s n → shorter < room → end_verdict f (s ∷ rest) n shorter ≡ Refused (BufferTooSmall (2 * room))
+  end_short : (room : ℕ) → room ≡ room_at_end f s n → shorter < room → end_verdict f (s ∷ rest) n shorter ≡ Err (BufferTooSmall (2 * room))
   unfolding end_verdict
   end_short room e l = rw (← e, lt-leb room shorter l)
 
@@ -40,11 +38,11 @@ module _ (f : PcmFormat) (s : Stage) (rest : List Stage) (n shorter : ℕ) where
   end_next room m g e l i j = rw (← e, le-leb room shorter l, i, j)
 
   -- what an accepted finish's stage finds
-  pub end_first : end_verdict f (s ∷ rest) n shorter ≡ Accepted → room_at_end f s n ≤ shorter
+  pub end_first : end_verdict f (s ∷ rest) n shorter ≡ Ok tt → room_at_end f s n ≤ shorter
   unfolding end_verdict
   end_first e = leb-true _ _ (ask_yes (leb (room_at_end f s n) shorter) _ _ e).0
 
-  pub end_rest : end_verdict f (s ∷ rest) n shorter ≡ Accepted → end_verdict (format_after f s.kind) rest (frames_at_end s.kind s.memory n) shorter ≡ Accepted
+  pub end_rest : end_verdict f (s ∷ rest) n shorter ≡ Ok tt → end_verdict (format_after f s.kind) rest (frames_at_end s.kind s.memory n) shorter ≡ Ok tt
   unfolding end_verdict
   end_rest e = (ask_yes (leb (room_at_end f s n) shorter) _ _ e).1
 
@@ -84,7 +82,7 @@ module _ (shorter : ℕ) (w : Walk) (s : Stage) (l : List Stage) where
 no_more : (w : Walk) (shorter : ℕ) → short_verdict w.short ≡ short_then w.short (end_verdict w.format [] w.frames shorter)
 no_more w shorter = go (eqb w.short 0) ∙ ap (short_then w.short) (sym (end_none w.format w.frames shorter))
   where
-    go : (t : Bool) → ask t (BufferTooSmall (2 * w.short)) Accepted ≡ cond t Accepted (Refused (BufferTooSmall (2 * w.short)))
+    go : (t : Bool) → ask t (BufferTooSmall (2 * w.short)) (Ok tt) ≡ cond t (Ok tt) (Err (BufferTooSmall (2 * w.short)))
     go true = refl
     go false = refl
 
@@ -99,7 +97,7 @@ walked_end shorter w (s ∷ l) h u =
     ∙ further_short shorter w s l ∙ step_short shorter w s l (eqb w.short 0) refl (leb (room_at_end w.format s w.frames) shorter) refl
 
 -- ---- what the walk answers is the verdict
-pub head_refused : (c : Pipeline) (shorter : ℕ) → head_legal c.format c.count ≡ false → Refused InvalidFormat ≡ finish_verdict c shorter
+pub head_refused : (c : Pipeline) (shorter : ℕ) → head_legal c.format c.count ≡ false → Err InvalidFormat ≡ finish_verdict c shorter
 unfolding finish_verdict legal
 head_refused c shorter h = rw (go (leb c.count 8) (format_allowed c.format) h)
   where

@@ -1,14 +1,13 @@
 -- `note_lines::page` meets its contract. Assumes nothing.
+use Rattle.std.specs.Prelude.{Err}
 use borrow.Author.Rules.{rules}
 use mathlib.Core.Path.{◌≡◌, refl, sym, ap, ◌∙◌}
 use mathlib.Core.List.{List}
 use Prim.Native.Nat.{ℕ}
 use lib.ListN.{length}
 use Rattle.pcm.specs.declared.PcmFormat.{PcmFormat}
-use Rattle.pcm.specs.declared.Verdict.{Verdict}
-use Rattle.pcm.specs.declared.Verdict.TheVariants.{Refused}
 use Rattle.pcm.specs.Frames.{written}
-use Rattle.pcm.specs.Refusals.{room_verdict}
+use Rattle.pcm.specs.Refusals.{room_verdict, Verdict}
 use Rattle.pcm.specs.laws.Refusals.{room_enough}
 use Rattle.pipeline.specs.laws.WritingBack.{concluded, wrote}
 use Rattle.note_lines.specs.Arguments.{format_of}
@@ -41,12 +40,12 @@ sized c = c.page_size-needed.ensures ∙ ap length (page_is c.before)
 asked : (c : tie.After-require_room-room) → let s = start c.before.before in room_verdict (length (page_bytes s)) (length s.args.out.now) ≡ c.require_room-room.result
 asked c = let s = start c.before.before in ap (λ (n : ℕ). room_verdict n (length s.args.out.now)) (sym (sized c.before)) ∙ sym c.require_room-room.ensures
 
-returns : tie.Need-returns-in-Refused
+returns : tie.Need-returns-in-Err
 unfolding page_call
 returns c =
     let q = c.before in
     let s = start q.before.before in
-    concluded (room_verdict (length (page_bytes s)) (length s.args.out.now)) (page_bytes s) s.args.out.now _ _ (Refused _) (asked q ∙ c.in-Refused.is) refl
+    concluded (room_verdict (length (page_bytes s)) (length s.args.out.now)) (page_bytes s) s.args.out.now _ _ (Err _) (asked q ∙ c.in-Err.is) refl
 
 write-page-requires : tie.Need-write_page-requires
 write-page-requires c κs =

@@ -8,13 +8,13 @@ use Rattle.note_lines.proofs.page_size.Statement.{statement}
 use Rattle.note_lines.proofs.page_size.Tie as tie
 
 lines-size-requires : tie.Need-lines_size-requires
-lines-size-requires c κs = rw c.in-Accepted.is at c.requires
+lines-size-requires c κs = rw c.in-Ok.is at c.requires
 
-returns : tie.Need-returns-in-Accepted
-returns c = rw c.in-Accepted.is c.lines_size.ensures
+returns : tie.Need-returns-in-Ok
+returns c = rw c.in-Ok.is c.lines_size.ensures
 
-returns-2 : tie.Need-returns-in-Refused
-returns-2 c = rw c.in-Refused.is (c.number_size.ensures ∙ ap (λ (n : ℕ). length (number_line n)) c.number.ensures)
+returns-2 : tie.Need-returns-in-Err
+returns-2 c = rw c.in-Err.is (c.number_size.ensures ∙ ap (λ (n : ℕ). length (number_line n)) c.number.ensures)
 
 pub page_size_spec : {M : Type 1} → statement M
 page_size_spec = tie.close (tie.spec

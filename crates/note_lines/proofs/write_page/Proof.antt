@@ -10,21 +10,21 @@ use Rattle.note_lines.proofs.write_page.Tie as tie
 
 write-lines-requires : tie.Need-write_lines-requires
 write-lines-requires c κs =
-    let p = rw c.in-Accepted.is at c.requires in
+    let p = rw c.in-Ok.is at c.requires in
     (p.0.0, p.1)
 
 put-number-requires : tie.Need-put_number-requires
 put-number-requires c κs =
-    let p = rw c.in-Refused.is at c.requires in
-    rw c.number.ensures ((number_within c.in-Refused.e).1, p.1)
+    let p = rw c.in-Err.is at c.requires in
+    rw c.number.ensures ((number_within c.in-Err.e).1, p.1)
 
-returns : tie.Need-returns-in-Accepted
+returns : tie.Need-returns-in-Ok
 returns c =
-    rw c.in-Accepted.is c.write_lines.ensures
+    rw c.in-Ok.is c.write_lines.ensures
 
-returns-2 : tie.Need-returns-in-Refused
+returns-2 : tie.Need-returns-in-Err
 returns-2 c =
-    rw c.in-Refused.is (c.put_number.ensures ∙ ap (λ (k : ℕ). written (number_line k) c.args.out.now) c.number.ensures)
+    rw c.in-Err.is (c.put_number.ensures ∙ ap (λ (k : ℕ). written (number_line k) c.args.out.now) c.number.ensures)
 
 pub write_page_spec : {M : Type 1} → statement M
 write_page_spec = tie.close (tie.spec

@@ -1,11 +1,9 @@
 -- Laws of the definitions in Page. Assumes nothing.
-use Rattle.std.specs.Prelude.{◌≡◌, Bool, true, false, cond, List, [], ◌∷◌, ℕ, ◌*◌, ◌/◌, ◌%◌, ◌≤◌, leb, ltb, length}
+use Rattle.std.specs.Prelude.{◌≡◌, Bool, true, false, cond, List, [], ◌∷◌, ℕ, ◌*◌, ◌/◌, ◌%◌, ◌≤◌, leb, ltb, length, Ok, Err}
 use Rattle.std.proofs.Common.{ap, arith, leb-true}
 use Rattle.pcm.specs.declared.PcmFormat.{PcmFormat}
 use Rattle.pcm.specs.declared.Error.TheVariants.{TooLong}
-use Rattle.pcm.specs.declared.Verdict.{Verdict}
-use Rattle.pcm.specs.declared.Verdict.TheVariants.{Accepted, Refused}
-use Rattle.pcm.specs.Refusals.{refusal}
+use Rattle.pcm.specs.Refusals.{refusal, Verdict}
 use Rattle.pcm.specs.laws.Refusals.{ask_yes}
 use Rattle.recipe.specs.Records.{records, WholeRecords}
 use Rattle.pipeline.specs.declared.Opened.{Opened}
@@ -17,19 +15,19 @@ use Rattle.note_lines.specs.laws.Lines.{lines_fit}
 
 -- where a recipe is accepted its records are whole, and within the limit
 abbrev pub Readable : Verdict → List ℕ → Type 0
-Readable Accepted recipe = WholeRecords (records recipe) × (length recipe ≤ 1048576)
-Readable (Refused e) recipe = Unit {0}
+Readable (Ok tt) recipe = WholeRecords (records recipe) × (length recipe ≤ 1048576)
+Readable (Err e) recipe = Unit {0}
 
-accepted_whole : (f : PcmFormat) (recipe : List ℕ) → (open_call f recipe).verdict ≡ Accepted → WholeRecords (records recipe)
+accepted_whole : (f : PcmFormat) (recipe : List ℕ) → (open_call f recipe).verdict ≡ Ok tt → WholeRecords (records recipe)
 accepted_whole f recipe h =
     opened_whole f recipe (open_call f recipe).chain (ap (λ (v : Verdict). let o : Opened = record { verdict = v; chain = (open_call f recipe).chain } in o) h)
 
 pub desk_readable : (f : PcmFormat) (recipe : List ℕ) (v : Verdict) → v ≡ desk_verdict f recipe → Readable v recipe
 unfolding desk_verdict
-desk_readable f recipe Accepted e =
+desk_readable f recipe (Ok tt) e =
     let a = ask_yes (leb (length recipe) 1048576) TooLong (open_call f recipe).verdict (cc) in
     (accepted_whole f recipe a.1, leb-true (length recipe) 1048576 a.0)
-desk_readable f recipe (Refused x) e = tt
+desk_readable f recipe (Err x) e = tt
 
 -- ---- sizes
 number_short : (n : ℕ) → length (number_line n) ≤ 3
@@ -41,5 +39,5 @@ number_short n = by_size (ltb n 10)
     by_size false = omega arith
 
 pub printed_fits : (v : Verdict) (recipe : List ℕ) (room : ℕ) → Readable v recipe → 2 * length recipe ≤ room → 3 ≤ room → length (printed v recipe) ≤ room
-printed_fits Accepted recipe room r h k = omega (arith, lines_fit recipe r.0)
-printed_fits (Refused e) recipe room r h k = omega (arith, number_short (refusal e).number)
+printed_fits (Ok tt) recipe room r h k = omega (arith, lines_fit recipe r.0)
+printed_fits (Err e) recipe room r h k = omega (arith, number_short (refusal e).number)

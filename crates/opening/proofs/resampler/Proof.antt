@@ -1,17 +1,17 @@
 -- `opening::resampler` meets its contract. Assumes nothing.
+use Rattle.std.specs.Prelude.{Ok, Err}
 use borrow.Author.Rules.{rules}
 use mathlib.Core.Path.{◌≡◌, sym, ◌∙◌}
 use Prim.Native.Nat.{ℕ}
 use native.Mathlib.Omega.{arith}
 use Rattle.pcm.specs.declared.Error.{Error}
 use Rattle.rates.specs.declared.LinearResampler.{LinearResampler}
-use Rattle.rates.specs.declared.NewResampler.TheVariants as New
 use Rattle.rates.specs.laws.Rates.{opened_made}
 use Rattle.opening.proofs.resampler.Statement.{statement}
 use Rattle.opening.proofs.resampler.Tie as tie
 
 -- what is made is not refused
-made_refused : {r : LinearResampler} {x : Error} → New.Made r ≡ New.Refused x → ⊥
+made_refused : {r : LinearResampler} {x : Error} → Ok r ≡ Err x → ⊥
 made_refused e = let z : ◌≡◌ {A = ℕ} 0 1 = cc in omega arith
 
 returns : tie.Need-returns-in_default

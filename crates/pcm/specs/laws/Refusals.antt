@@ -1,22 +1,20 @@
 -- What an accepted call was asked, and the numbers of refusals. Assumes nothing.
-use Rattle.std.specs.Prelude.{◌≡◌, refl, Bool, true, false, ℕ, ◌≤◌, ◌<◌, leb}
+use Rattle.std.specs.Prelude.{◌≡◌, refl, Bool, true, false, ℕ, ◌≤◌, ◌<◌, leb, Ok, Err}
 use Rattle.std.proofs.Common.{arith, leb-true}
 use Rattle.pcm.specs.declared.Error.{Error}
 use Rattle.pcm.specs.declared.Error.TheVariants as error
-use Rattle.pcm.specs.declared.Verdict.{Verdict}
-use Rattle.pcm.specs.declared.Verdict.TheVariants.{Accepted, Refused}
-use Rattle.pcm.specs.Refusals.{refusal, ask, and_then, room_verdict}
+use Rattle.pcm.specs.Refusals.{refusal, ask, and_then, room_verdict, Verdict}
 
 -- both of two questions are answered yes
-pub ask_yes : (t : Bool) (e : Error) (v : Verdict) → ask t e v ≡ Accepted → (t ≡ true) × (v ≡ Accepted)
+pub ask_yes : (t : Bool) (e : Error) (v : Verdict) → ask t e v ≡ Ok tt → (t ≡ true) × (v ≡ Ok tt)
 ask_yes true e v h = (refl, h)
 ask_yes false e v h = (cc, cc)
 
-pub then_yes : (v more : Verdict) → and_then v more ≡ Accepted → (v ≡ Accepted) × (more ≡ Accepted)
-then_yes Accepted more h = (refl, h)
-then_yes (Refused e) more h = (cc, cc)
+pub then_yes : (v more : Verdict) → and_then v more ≡ Ok tt → (v ≡ Ok tt) × (more ≡ Ok tt)
+then_yes (Ok tt) more h = (refl, h)
+then_yes (Err e) more h = (cc, cc)
 
-pub room_enough : (needed room : ℕ) → room_verdict needed room ≡ Accepted → needed ≤ room
+pub room_enough : (needed room : ℕ) → room_verdict needed room ≡ Ok tt → needed ≤ room
 unfolding room_verdict
 room_enough needed room h = leb-true needed room (ask_yes (leb needed room) _ _ h).0
 

@@ -1,9 +1,8 @@
 -- A recipe that opens is written back without its notes, stage by stage. Assumes nothing.
-use Rattle.std.specs.Prelude.{◌≡◌, refl, Bool, true, false, List, [], ◌∷◌, ◌++◌, map, ℕ, ◌-◌, ◌≤◌, ◌<◌, ◌⊎◌, length, replicate}
+use Rattle.pcm.specs.Refusals.{Verdict}
+use Rattle.std.specs.Prelude.{◌≡◌, refl, Bool, true, false, List, [], ◌∷◌, ◌++◌, map, ℕ, ◌-◌, ◌≤◌, ◌<◌, ◌⊎◌, length, replicate, Ok, Err}
 use Rattle.std.proofs.Common.{sym, ap, ap₂, ◌∙◌, inl, inr, ⊎_elim, arith, length-append, take_at}
 use Rattle.pcm.specs.declared.PcmFormat.{PcmFormat}
-use Rattle.pcm.specs.declared.Verdict.{Verdict}
-use Rattle.pcm.specs.declared.Verdict.TheVariants.{Accepted, Refused}
 use Rattle.pcm.specs.Formats.{format_allowed}
 use Rattle.pcm.specs.Samples.{All, Bytes}
 use Rattle.pcm.specs.Frames.{flat}
@@ -41,16 +40,16 @@ record_kept f (rec.Biquad rate bits) = refl
 -- ---- the first of records that open
 -- a note, and the others open
 record NoteFirst (more : ℕ) (f : PcmFormat) (left : List ℕ) (later : List (List ℕ)) (ss : List Stage) : Type 0 where
-  read : record_verdict left ≡ Accepted
+  read : record_verdict left ≡ Ok tt
   note : of_note (kind_at left) ≡ true
   then : open_records more f later ≡ opened ss
 
 -- a stage, and the others open
 record StageFirst (more : ℕ) (f : PcmFormat) (left : List ℕ) (later : List (List ℕ)) (ss : List Stage) : Type 0 where
   rest : List Stage
-  read : record_verdict left ≡ Accepted
+  read : record_verdict left ≡ Ok tt
   stage : of_note (kind_at left) ≡ false
-  fits : stage_verdict more f (record_at left) ≡ Accepted
+  fits : stage_verdict more f (record_at left) ≡ Ok tt
   stages_are : ss ≡ stage_as_opened (next_kind f left) ∷ rest
   then : open_records (more - 1) (format_after f (next_kind f left)) later ≡ opened rest
 
@@ -66,10 +65,10 @@ by_first more f left later ss e = by_record (record_verdict left) refl (of_note 
   where
     by_record : (v : Verdict) → record_verdict left ≡ v → (t : Bool) → of_note (kind_at left) ≡ t → (w : Verdict) → stage_verdict more f (record_at left) ≡ w
         → NoteFirst more f left later ss ⊎ StageFirst more f left later ss
-    by_record (Refused x) a t n w b = let o = rw a at e in zero_not_one (cc)
-    by_record Accepted a true n w b = inl (record { read = a; note = n; then = rw (a, n) at e })
-    by_record Accepted a false n (Refused x) b = let o = rw (a, n, b) at e in zero_not_one (cc)
-    by_record Accepted a false n Accepted b =
+    by_record (Err x) a t n w b = let o = rw a at e in zero_not_one (cc)
+    by_record (Ok tt) a true n w b = inl (record { read = a; note = n; then = rw (a, n) at e })
+    by_record (Ok tt) a false n (Err x) b = let o = rw (a, n, b) at e in zero_not_one (cc)
+    by_record (Ok tt) a false n (Ok tt) b =
         let p = split_front (stage_as_opened (next_kind f left)) (open_records (more - 1) (format_after f (next_kind f left)) later) ss (rw (a, n, b) at e) in
         inr (record { rest = p.0; read = a; stage = n; fits = b; stages_are = p.1; then = p.2 })
 
@@ -155,7 +154,7 @@ pub opened_stages : (f : PcmFormat) (ss : List Stage) → stages_of (chain_of f 
 unfolding chain_of
 opened_stages f ss = take_at ss (replicate (8 - length ss) unused_stage) (length ss) refl
 
-pub opened_from : (f : PcmFormat) (bytes : List ℕ) (c : Pipeline) → open_call f bytes ≡ record { verdict = Accepted; chain = c } → OpenedFrom f bytes c
+pub opened_from : (f : PcmFormat) (bytes : List ℕ) (c : Pipeline) → open_call f bytes ≡ record { verdict = Ok tt; chain = c } → OpenedFrom f bytes c
 unfolding open_call
 opened_from f bytes c e = by_format (format_allowed f) refl (open_stages 8 f bytes) refl
   where

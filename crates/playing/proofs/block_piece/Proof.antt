@@ -14,4 +14,4 @@ block_piece_spec = tie.close (tie.spec
     (λ c κs. search rules)
     (λ c. c.sounding.ensures ∙ rw c.in-Output.is)
     (λ c. c.silent.ensures ∙ rw c.in-NothingYet.is)
-    (λ c. c.silent-in-Refused.ensures ∙ rw c.in-Refused.is))
+    (λ c. c.silent-in-Err.ensures ∙ rw c.in-Err.is))

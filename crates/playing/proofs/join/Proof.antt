@@ -1,4 +1,5 @@
 -- `playing::join` meets its contract. Assumes nothing.
+use Rattle.std.specs.Prelude.{Ok}
 use borrow.Author.Rules.{rules}
 use mathlib.Core.Path.{◌≡◌, ap}
 use mathlib.Core.Bool.{true, false}
@@ -9,15 +10,14 @@ use borrow.Author.Tests.{le-leb, lt-leb}
 use lib.Dec.{leb}
 use lib.ListN.{length}
 use Rattle.answers.specs.Answers.{output_of}
-use Rattle.playing.specs.declared.Gathered.TheVariants as gathered
 use Rattle.playing.specs.Steps.{Joined, joined}
 use Rattle.playing.proofs.Joining.{put_back}
 use Rattle.playing.proofs.join.Statement.{statement}
 use Rattle.playing.proofs.join.Tie as tie
 
-returns : tie.Need-returns-in-Refused
+returns : tie.Need-returns-in-Err
 unfolding joined
-returns c = rw c.in-Refused.is
+returns c = rw c.in-Err.is
 
 -- where the call was accepted: its output
 abbrev start : tie.After-output-output → tie.Start
@@ -35,7 +35,7 @@ returns-2 c =
     rw (c.in_default.is, ← output_is o, e)
 
 abbrev outcome : ℕ → List ℕ → Joined
-outcome n out = record { gathered = gathered.Bytes n; out = out }
+outcome n out = record { gathered = Ok n; out = out }
 
 returns-3 : tie.Need-returns
 unfolding joined

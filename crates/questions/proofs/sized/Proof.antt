@@ -1,12 +1,12 @@
 -- `questions::sized` meets its contract. Assumes nothing.
+use Rattle.std.specs.Prelude.{Err}
+use Rattle.pcm.specs.Refusals.{Verdict}
 use borrow.Author.Rules.{rules}
 use mathlib.Core.Path.{◌≡◌}
 use mathlib.Core.Bool.{true, false}
 use Prim.Native.Nat.{ℕ}
 use Rattle.pcm.specs.declared.PcmFormat.{PcmFormat}
 use Rattle.pcm.specs.declared.Error.TheVariants.{InvalidFormat}
-use Rattle.pcm.specs.declared.Verdict.{Verdict}
-use Rattle.pcm.specs.declared.Verdict.TheVariants.{Refused}
 use Rattle.questions.specs.declared.Walk.{Walk}
 use Rattle.questions.specs.Walk.{size_verdict, sized_from}
 use Rattle.questions.proofs.sized.Statement.{statement}
@@ -17,7 +17,7 @@ module _ (f : PcmFormat) (size : ℕ) (w : Walk) where
   unfolding sized_from
   by_size v h e = rw h e
 
-  not_legal : w.legal ≡ false → Refused InvalidFormat ≡ sized_from f size w
+  not_legal : w.legal ≡ false → Err InvalidFormat ≡ sized_from f size w
   unfolding sized_from
   not_legal h = rw h
 

@@ -1,5 +1,5 @@
 -- The figures of the walk fit, and the walk one stage at a time. Assumes nothing.
-use Rattle.std.specs.Prelude.{◌≡◌, Bool, cond, List, ◌∷◌, ℕ, ◌*◌, ◌/◌, ◌≤◌, ◌<◌, eqb}
+use Rattle.std.specs.Prelude.{◌≡◌, Bool, cond, List, ◌∷◌, ℕ, ◌*◌, ◌/◌, ◌≤◌, ◌<◌, eqb, Ok}
 use Rattle.std.proofs.Math.Path.{refl}
 use Rattle.std.proofs.Math.Bool.{true, false}
 use Rattle.std.proofs.Math.Nat.{le_refl, le_trans}
@@ -8,7 +8,6 @@ use borrow.Author.Tests.{leb-true}
 use Rattle.std.proofs.Math.Dec.{leb}
 use Rattle.pcm.specs.declared.PcmFormat.{PcmFormat}
 use Rattle.pcm.specs.declared.Error.TheVariants.{InvalidGeometry, TooLong}
-use Rattle.pcm.specs.declared.Verdict.TheVariants.{Accepted}
 use Rattle.pcm.specs.Refusals.{ask}
 use Rattle.stage.specs.declared.Stage.{Stage}
 use Rattle.stage.specs.Stages.{format_after}
@@ -28,7 +27,7 @@ module _ (f : PcmFormat) (size : ℕ) where
   unfolding block_frames size_verdict
   frames_most = go (whole_frames f size) (leb (size / (f.channels * 2)) 8192) refl
     where
-      go : (t u : Bool) → leb (size / (f.channels * 2)) 8192 ≡ u → frames_if (ask t InvalidGeometry (ask u TooLong Accepted)) (size / (f.channels * 2)) ≤ 8192
+      go : (t u : Bool) → leb (size / (f.channels * 2)) 8192 ≡ u → frames_if (ask t InvalidGeometry (ask u TooLong (Ok tt))) (size / (f.channels * 2)) ≤ 8192
       go true true e = leb-true _ _ e
       go true false e = omega arith
       go false u e = omega arith

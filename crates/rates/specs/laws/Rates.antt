@@ -1,5 +1,5 @@
 -- What rates within the limit give: reduced rates of the same ratio, and counts within the room. Assumes nothing.
-use Rattle.std.specs.Prelude.{◌≡◌, Bool, leb, ltb}
+use Rattle.std.specs.Prelude.{◌≡◌, Bool, leb, ltb, Ok}
 use Rattle.std.proofs.Common.{sym, ap₂, ◌∙◌, le_refl, le_of_mul-le-mul_right, mul-le-mul_right, leb-true, ltb-true}
 use Rattle.std.proofs.Math.Path.{ap}
 use Rattle.std.proofs.Math.Bool.{true, false}
@@ -12,7 +12,6 @@ use Rattle.rates.specs.laws.Counting.{count_least, ceil_reach, ceil_scale}
 use Rattle.rates.specs.Divisor.{gcd}
 use Rattle.rates.specs.laws.Divisor.{gcd_is, reduced_rate}
 use Rattle.rates.specs.declared.LinearResampler.{LinearResampler}
-use Rattle.rates.specs.declared.NewResampler.TheVariants as New
 use Rattle.pcm.specs.laws.Tests.{both}
 use Rattle.rates.specs.Rates.{rates_allowed, reduced, resampler_of, carried_count, Rates}
 
@@ -45,7 +44,7 @@ module _ (input output : ℕ) (h : rates_allowed input output ≡ true) where
       ratio : (i o g : ℕ) → i * g ≡ input → o * g ≡ output → i * output ≡ o * input
       ratio i o g e f = ap (λ (n : ℕ). i * n) (sym f) ∙ omega arith ∙ ap (λ (n : ℕ). o * n) e
 
-  pub opened_made : resampler_of input output ≡ New.Made (reduced input output)
+  pub opened_made : resampler_of input output ≡ Ok (reduced input output)
   unfolding resampler_of
   opened_made = rw h
 

@@ -1,4 +1,5 @@
 -- `recipe::record_question` meets its contract. Assumes nothing.
+use Rattle.std.specs.Prelude.{Ok}
 use borrow.Author.Rules.{rules}
 use mathlib.Core.Path.{◌≡◌, sym, ap, ap₂, ◌∙◌}
 use mathlib.Core.Bool.{true, false}
@@ -8,7 +9,6 @@ use lib.Dec.{leb}
 use mathlib.Core.List.{List}
 use lib.ListN.{length}
 use Rattle.pcm.specs.declared.Error.TheVariants.{ShortRecord}
-use Rattle.pcm.specs.declared.Verdict.TheVariants.{Accepted}
 use Rattle.pcm.specs.Refusals.{ask}
 use Rattle.recipe.specs.Records.{record_verdict, known, length_verdict, length_at, kind_at}
 use Rattle.recipe.proofs.record_question.Statement.{statement}
@@ -51,16 +51,16 @@ returns-3 c =
     let k : known (kind_at (left_of c.before.before.before.before.before.before.before)) ≡ false = sym (ap known (kind_is c.before)) ∙ sym c.known.ensures ∙ c.if-not-known.true in
     rw (four c.before.before.before.before.before, two c.before.before.before, k)
 
-returns-4 : tie.Need-returns-in-Refused
+returns-4 : tie.Need-returns-in-Err
 unfolding record_verdict
 returns-4 c =
     let e = c.before in
-    let v = sym (sized e) ∙ c.in-Refused.is in
+    let v = sym (sized e) ∙ c.in-Err.is in
     rw (four e.before.before.before.before.before.before, two e.before.before.before.before, told e.before, v)
 
 -- all but the last question answered yes
 but_last : (c : tie.In_default) → let left = left_of c.before.before.before.before.before.before.before.before.before in
-    record_verdict left ≡ ask (leb (2 + length_at left) (length left)) ShortRecord Accepted
+    record_verdict left ≡ ask (leb (2 + length_at left) (length left)) ShortRecord (Ok tt)
 unfolding record_verdict
 but_last c =
     let e = c.before in

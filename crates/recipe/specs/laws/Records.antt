@@ -1,9 +1,8 @@
 -- Laws of the definitions in Records. Assumes nothing.
-use Rattle.std.specs.Prelude.{◌≡◌, refl, Bool, true, false, ◌&&◌, ◌||◌, List, [], ◌∷◌, ℕ, zero, suc, ◌+◌, ◌*◌, ◌≤◌, ◌<◌, leb, ltb, eqb, length, drop}
+use Rattle.std.specs.Prelude.{◌≡◌, refl, Bool, true, false, ◌&&◌, ◌||◌, List, [], ◌∷◌, ℕ, zero, suc, ◌+◌, ◌*◌, ◌≤◌, ◌<◌, leb, ltb, eqb, length, drop, Ok}
 use Rattle.std.proofs.Common.{sym, ap, ◌∙◌, arith, ltb-true, leb-true, eqb-true}
 use Rattle.std.proofs.Math.Seq.{drop-nil}
 use Rattle.pcm.specs.declared.Error.TheVariants.{ShortRecord, UnknownStage, RecordLength}
-use Rattle.pcm.specs.declared.Verdict.TheVariants.{Accepted}
 use Rattle.recipe.specs.declared.Record.{Record}
 use Rattle.recipe.specs.declared.Record.TheVariants as rec
 use Rattle.words.specs.laws.Words.{length_words}
@@ -34,16 +33,16 @@ pub record Whole (left : List ℕ) : Type 0 where
   pub four : 4 ≤ length left
   pub two : 2 ≤ length_at left
   pub kind : known (kind_at left) ≡ true
-  pub size : length_verdict (kind_at left) (length_at left) ≡ Accepted
+  pub size : length_verdict (kind_at left) (length_at left) ≡ Ok tt
   pub there : 2 + length_at left ≤ length left
 
-pub whole_record : (left : List ℕ) → record_verdict left ≡ Accepted → Whole left
+pub whole_record : (left : List ℕ) → record_verdict left ≡ Ok tt → Whole left
 unfolding record_verdict
 whole_record left h =
     let a = ask_yes (leb 4 (length left) && leb 2 (length_at left)) ShortRecord _ h in
     let b = ask_yes (known (kind_at left)) UnknownStage _ a.1 in
     let c = then_yes (length_verdict (kind_at left) (length_at left)) _ b.1 in
-    let d = ask_yes (leb (2 + length_at left) (length left)) ShortRecord Accepted c.1 in
+    let d = ask_yes (leb (2 + length_at left) (length left)) ShortRecord (Ok tt) c.1 in
     let f = both (leb 4 (length left)) (leb 2 (length_at left)) a.0 in
     record { four = leb-true 4 (length left) f.0; two = leb-true 2 (length_at left) f.1; kind = b.0; size = c.0; there = leb-true _ _ d.0 }
 
@@ -56,7 +55,7 @@ pub record WholeStage (left : List ℕ) : Type 0 where
 
 pub whole_stage : (left : List ℕ) → Whole left → of_note (kind_at left) ≡ false → WholeStage left
 whole_stage left w n =
-    let e : eqb (length_at left) (2 + 4 * field_count (kind_at left)) ≡ true = (ask_yes _ RecordLength Accepted (rw n at w.size)).0 in
+    let e : eqb (length_at left) (2 + 4 * field_count (kind_at left)) ≡ true = (ask_yes _ RecordLength (Ok tt) (rw n at w.size)).0 in
     let s : length_at left ≡ 2 + 4 * field_count (kind_at left) = eqb-true _ _ e in
     record { four = w.four; kind = no_note_stage (kind_at left) w.kind n; size = s; there = omega (arith, w.there) }
 

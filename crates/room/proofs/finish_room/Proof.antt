@@ -1,9 +1,9 @@
 -- `room::finish_room` meets its contract. Assumes nothing.
+use Rattle.std.specs.Prelude.{Ok}
 use borrow.Author.Rules.{rules}
 use mathlib.Core.Path.{◌≡◌, sym, ap, ◌∙◌}
 use mathlib.Core.Bool.{true}
 use Rattle.pcm.specs.declared.Error.TheVariants.{InvalidFormat}
-use Rattle.pcm.specs.declared.Verdict.TheVariants.{Accepted}
 use Rattle.pcm.specs.Refusals.{ask}
 use Rattle.questions.specs.declared.Walk.{Walk}
 use Rattle.questions.specs.Walk.{head_legal}
@@ -31,4 +31,4 @@ finish_room_spec = tie.close (tie.spec
     let w = c.before in
     let e = w.before in
     finish_told_lem _ _
-    (c.of_finish.ensures ∙ ap (λ (x : Walk). room_answer (ask x.legal InvalidFormat Accepted) x) c.walked.ensures ∙ finish_room_is (s e).args.chain (head e))))
+    (c.of_finish.ensures ∙ ap (λ (x : Walk). room_answer (ask x.legal InvalidFormat (Ok tt)) x) c.walked.ensures ∙ finish_room_is (s e).args.chain (head e))))

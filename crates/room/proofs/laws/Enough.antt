@@ -1,15 +1,13 @@
 -- The figures of the walk are those of the calls: laws of `Smallest`, and of the walk with halves lent. Assumes nothing.
-use Rattle.std.specs.Prelude.{◌≡◌, Bool, ◌&&◌, ℕ, ◌-◌, ◌*◌, ◌≤◌, ◌<◌, leb, length}
+use Rattle.std.specs.Prelude.{◌≡◌, Bool, ◌&&◌, ℕ, ◌-◌, ◌*◌, ◌≤◌, ◌<◌, leb, length, Ok, Err}
 use Rattle.std.proofs.Math.Path.{refl, sym, ap, ap₂}
 use Rattle.std.proofs.Common.{◌∙◌, subst, le_refl, arith, ne_eqb, eq-eqb}
 use Rattle.std.proofs.Math.Bool.{true, false}
 use Rattle.std.proofs.Math.Decide.{dec_lt}
 use Rattle.pcm.specs.declared.PcmFormat.{PcmFormat}
 use Rattle.pcm.specs.declared.Error.TheVariants.{InvalidFormat, Unsupported, BufferTooSmall}
-use Rattle.pcm.specs.declared.Verdict.{Verdict}
-use Rattle.pcm.specs.declared.Verdict.TheVariants.{Accepted, Refused}
 use Rattle.pcm.specs.Formats.{format_allowed}
-use Rattle.pcm.specs.Refusals.{ask, and_then}
+use Rattle.pcm.specs.Refusals.{ask, and_then, Verdict}
 use Rattle.pipeline.specs.declared.Pipeline.{Pipeline}
 use Rattle.pipeline.specs.WritingBack.{stages_of}
 use Rattle.questions.specs.declared.Question.{Question}
@@ -34,7 +32,7 @@ no_larger verdict m n p q = go (dec_lt n m)
   where
     go : Dec (n < m) → m ≤ n
     go (yes l) =
-        let a : verdict n ≡ Accepted = q.enough n (le_refl n) in
+        let a : verdict n ≡ Ok tt = q.enough n (le_refl n) in
         let b = (p.too_small n l).verdict in
         let z : ◌≡◌ {A = ℕ} 0 1 = cc in omega arith
     go (no l) = omega arith
@@ -53,14 +51,14 @@ module _ (verdict : ℕ → Verdict) (walk : ℕ → Walk) (half : ℕ)
     one_less = λ some.
         let t = too_small (half - 1) (omega arith) in
         let e : t.first ≡ half = omega (arith, t.above, t.most) in
-        t.verdict ∙ ap (λ (k : ℕ). Refused (BufferTooSmall (2 * k))) e;
+        t.verdict ∙ ap (λ (k : ℕ). Err (BufferTooSmall (2 * k))) e;
     too_small = too_small;
   }
 
 -- ---- what an answer says
-pub known_parts : (v : Verdict) (w : Walk) (frames half : ℕ) → room_answer v w ≡ room.Known frames half → (v ≡ Accepted) × ((w.frames ≡ frames) × (w.largest ≡ half))
-known_parts Accepted w frames half e = (refl, (cc, cc))
-known_parts (Refused x) w frames half e = (cc, (cc, cc))
+pub known_parts : (v : Verdict) (w : Walk) (frames half : ℕ) → room_answer v w ≡ room.Known frames half → (v ≡ Ok tt) × ((w.frames ≡ frames) × (w.largest ≡ half))
+known_parts (Ok tt) w frames half e = (refl, (cc, cc))
+known_parts (Err x) w frames half e = (cc, (cc, cc))
 
 same_formats : (f : PcmFormat) → same_format f f ≡ true
 same_formats f = rw (eq-eqb f.rate f.rate refl, eq-eqb f.channels f.channels refl)
@@ -98,7 +96,7 @@ module _ (c : Pipeline) (lawful : legal c ≡ true) where
     unfolding found
     largest_with m = (walked_alike q m 0 (begun c.format c.count size m) (begun c.format c.count size 0) (stages_of c) (start_alike m)).largest
 
-  module _ (eight : length c.stages ≡ 8) (size : ℕ) (sized : size_verdict c.format size ≡ Accepted) where
+  module _ (eight : length c.stages ≡ 8) (size : ℕ) (sized : size_verdict c.format size ≡ Ok tt) where
     block_with : (m : ℕ) → block_verdict c c.format size m ≡ short_verdict (walk_with Block size m).short
     unfolding verdict_from sized_from
     block_with m =

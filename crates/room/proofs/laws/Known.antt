@@ -1,5 +1,5 @@
 -- What the walk finds is what the calls then do: laws of `BlockKnown` and `FinishKnown`. Assumes nothing.
-use Rattle.std.specs.Prelude.{◌≡◌, refl, Bool, true, false, cond, ℕ, ◌-◌, ◌*◌, ◌/◌, ◌≤◌, ◌<◌, leb}
+use Rattle.std.specs.Prelude.{◌≡◌, refl, Bool, true, false, cond, ℕ, ◌-◌, ◌*◌, ◌/◌, ◌≤◌, ◌<◌, leb, Ok, Err, Result}
 use Rattle.std.proofs.Math.Path.{sym, ap}
 use Rattle.std.proofs.Common.{◌∙◌}
 use mathlib.Core.List.{List, []}
@@ -8,10 +8,8 @@ use Rattle.std.proofs.Math.ListN.{length}
 use Rattle.pcm.specs.declared.Error.{Error}
 use Rattle.pcm.specs.declared.Error.TheVariants.{InvalidFormat, InvalidGeometry, TooLong}
 use Rattle.pcm.specs.declared.PcmFormat.{PcmFormat}
-use Rattle.pcm.specs.declared.Verdict.{Verdict}
-use Rattle.pcm.specs.declared.Verdict.TheVariants.{Accepted, Refused}
 use Rattle.pcm.specs.Frames.{frames_of}
-use Rattle.pcm.specs.Refusals.{ask}
+use Rattle.pcm.specs.Refusals.{ask, Verdict}
 use Rattle.pcm.specs.laws.Frames.{length_frames, frames_are_frames, length_bytes}
 use Rattle.pcm.specs.laws.Refusals.{ask_yes}
 use Rattle.pipeline.specs.declared.Pipeline.{Pipeline}
@@ -53,14 +51,14 @@ both_of m a b h k = go (leb (length a) (length b))
 
 -- ---- what is known of a block
 module _ (c : Pipeline) (sound : Sounding c) (n frames half : ℕ) (known : block_room c n ≡ room.Known frames half) where
-  parts : (block_asked c n ≡ Accepted) × (((block_found c n).frames ≡ frames) × ((block_found c n).largest ≡ half))
+  parts : (block_asked c n ≡ Ok tt) × (((block_found c n).frames ≡ frames) × ((block_found c n).largest ≡ half))
   unfolding block_room
   parts = known_parts (block_asked c n) (block_found c n) frames half known
 
   lawful : legal c ≡ true
   lawful = (ask_yes (legal c) InvalidFormat (frames_verdict n) parts.0).0
 
-  sized : size_verdict c.format (n * frame_bytes c) ≡ Accepted
+  sized : size_verdict c.format (n * frame_bytes c) ≡ Ok tt
   sized = size_frames c.format n (legal_parts c lawful).channels.0 ∙ (ask_yes (legal c) InvalidFormat (frames_verdict n) parts.0).1
 
   smallest : Smallest (block_verdict c c.format (n * frame_bytes c)) half
@@ -88,7 +86,7 @@ module _ (c : Pipeline) (sound : Sounding c) (n frames half : ℕ) (known : bloc
     exact = exact;
     smallest = smallest;
     delivers = λ timestamp bytes a b good long h k.
-        let e : block_call c c.format timestamp bytes a b ≡ accepted c timestamp bytes (halves a b) = by_verdict bytes long timestamp a b Accepted (smallest.enough (shorter a b) (both_long half a b h k)) in
+        let e : block_call c c.format timestamp bytes a b ≡ accepted c timestamp bytes (halves a b) = by_verdict bytes long timestamp a b (Ok tt) (smallest.enough (shorter a b) (both_long half a b h k)) in
         let l : output_bytes c bytes ≡ frames * leaving_bytes c =
         length_bytes (format_leaving c.format (stages_of c)).channels (chain_out (stages_of c) (frames_of c.format.channels bytes)) (sound.leaving _ (frames_are_frames c.format.channels bytes good))
         ∙ ap (λ (m : ℕ). m * leaving_bytes c) (exact bytes long) in
@@ -99,12 +97,12 @@ module _ (c : Pipeline) (sound : Sounding c) (n frames half : ℕ) (known : bloc
 
 -- ---- and of a finish
 module _ (c : Pipeline) (sound : Sounding c) (frames half : ℕ) (known : finish_room c ≡ room.Known frames half) where
-  finish_parts : (finish_asked c ≡ Accepted) × (((finish_found c).frames ≡ frames) × ((finish_found c).largest ≡ half))
+  finish_parts : (finish_asked c ≡ Ok tt) × (((finish_found c).frames ≡ frames) × ((finish_found c).largest ≡ half))
   unfolding finish_room
   finish_parts = known_parts (finish_asked c) (finish_found c) frames half known
 
   finish_lawful : legal c ≡ true
-  finish_lawful = (ask_yes (legal c) InvalidFormat Accepted finish_parts.0).0
+  finish_lawful = (ask_yes (legal c) InvalidFormat (Ok tt) finish_parts.0).0
 
   finish_least : Smallest (finish_verdict c) half
   finish_least = rw finish_parts.1.1 at (finish_smallest c finish_lawful)
@@ -127,7 +125,7 @@ module _ (c : Pipeline) (sound : Sounding c) (frames half : ℕ) (known : finish
     exact = exact_end;
     smallest = finish_least;
     delivers = λ a b h k.
-        let e : finish_call c a b ≡ finished c (halves a b) = finish_by_verdict a b Accepted (finish_least.enough (shorter a b) (both_long half a b h k)) in
+        let e : finish_call c a b ≡ finished c (halves a b) = finish_by_verdict a b (Ok tt) (finish_least.enough (shorter a b) (both_long half a b h k)) in
         let l : finish_bytes c ≡ frames * leaving_bytes c =
         length_bytes (format_leaving c.format (stages_of c)).channels (chain_end c.format (stages_of c) []) sound.ending ∙ ap (λ (m : ℕ). m * leaving_bytes c) exact_end in
         (e, ap (λ (r : FinishResult). r.answer) e ∙ ap (λ (m : ℕ). finish_answer (format_leaving c.format (stages_of c)) (last_half c.count) m (finish_clipped c)) l);
@@ -135,22 +133,22 @@ module _ (c : Pipeline) (sound : Sounding c) (frames half : ℕ) (known : finish
   }
 
 -- ---- what is refused beforehand
-then_refused : (t u : Bool) (next : Verdict) (e : Error) → ask t InvalidGeometry (ask u TooLong Accepted) ≡ Refused e → ask t InvalidGeometry (ask u TooLong next) ≡ Refused e
+then_refused : (t u : Bool) (next : Verdict) (e : Error) → ask t InvalidGeometry (ask u TooLong (Ok tt)) ≡ Err e → ask t InvalidGeometry (ask u TooLong next) ≡ Err e
 then_refused true true next e h = cc
 then_refused true false next e h = h
 then_refused false u next e h = h
 
-answer_refused : (v : Verdict) (c : Pipeline) (n : ℕ) (e : Error) → room_answer v (block_found c n) ≡ room.Refused e → v ≡ Refused e
-answer_refused Accepted c n e h = cc
-answer_refused (Refused x) c n e h = let k : x ≡ e = cc in ap Refused k
+answer_refused : (v : Verdict) (c : Pipeline) (n : ℕ) (e : Error) → room_answer v (block_found c n) ≡ room.Refused e → v ≡ Err e
+answer_refused (Ok tt) c n e h = cc
+answer_refused (Err x) c n e h = let k : x ≡ e = cc in ap Err k
 
 -- whatever further questions follow those of the frames
-pub refused_then : (c : Pipeline) (n : ℕ) (e : Error) → block_room c n ≡ room.Refused e → (next : Verdict) → size_asked c (n * frame_bytes c) next ≡ Refused e
+pub refused_then : (c : Pipeline) (n : ℕ) (e : Error) → block_room c n ≡ room.Refused e → (next : Verdict) → size_asked c (n * frame_bytes c) next ≡ Err e
 unfolding block_room size_verdict
 refused_then c n e known next = go (legal c) refl (answer_refused (block_asked c n) c n e known)
   where
-    go : (t : Bool) → legal c ≡ t → ask t InvalidFormat (frames_verdict n) ≡ Refused e
-        → ask t InvalidFormat (ask (whole_frames c.format (n * frame_bytes c)) InvalidGeometry (ask (leb (n * frame_bytes c / frame_bytes c) 8192) TooLong next)) ≡ Refused e
+    go : (t : Bool) → legal c ≡ t → ask t InvalidFormat (frames_verdict n) ≡ Err e
+        → ask t InvalidFormat (ask (whole_frames c.format (n * frame_bytes c)) InvalidGeometry (ask (leb (n * frame_bytes c / frame_bytes c) 8192) TooLong next)) ≡ Err e
     go true k r = then_refused (whole_frames c.format (n * frame_bytes c)) (leb (n * frame_bytes c / frame_bytes c) 8192) next e (size_frames c.format n (legal_parts c k).channels.0 ∙ r)
     go false k r = r
 

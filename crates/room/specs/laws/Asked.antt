@@ -1,13 +1,11 @@
 -- A block of n frames asked by its size in bytes, and what the walk answers: laws of `block_room` and `finish_room`. Assumes nothing.
-use Rattle.std.specs.Prelude.{◌≡◌, refl, Bool, true, false, cond, ◌&&◌, ℕ, zero, suc, ◌*◌, ◌≤◌, ◌<◌, leb, ltb}
+use Rattle.std.specs.Prelude.{◌≡◌, refl, Bool, true, false, cond, ◌&&◌, ℕ, zero, suc, ◌*◌, ◌≤◌, ◌<◌, leb, ltb, Ok, Err}
 use Rattle.std.proofs.Common.{sym, ◌∙◌, mul-div_cancel, arith, leb-true, leb-false, eq-eqb, lt-ltb}
 use Rattle.std.proofs.Math.Path.{ap, ap₂}
 use Rattle.std.proofs.Math.Nat.{mul-mod_left}
 use Rattle.pcm.specs.declared.PcmFormat.{PcmFormat}
 use Rattle.pcm.specs.declared.Error.TheVariants.{InvalidFormat, InvalidGeometry, TooLong}
-use Rattle.pcm.specs.declared.Verdict.{Verdict}
-use Rattle.pcm.specs.declared.Verdict.TheVariants.{Accepted, Refused}
-use Rattle.pcm.specs.Refusals.{ask}
+use Rattle.pcm.specs.Refusals.{ask, Verdict}
 use Rattle.pcm.specs.laws.Refusals.{ask_yes}
 use Rattle.pipeline.specs.declared.Pipeline.{Pipeline}
 use Rattle.pipeline.specs.WritingBack.{stages_of}
@@ -32,7 +30,7 @@ size_frames f n h =
     let w : 0 < f.channels * 2 = omega arith in
     rw (some_bytes n (f.channels * 2) w, eq-eqb _ _ (mul-mod_left n (f.channels * 2)), mul-div_cancel n w) (go (ltb 0 n))
   where
-    go : (t : Bool) → ask (t && true) InvalidGeometry (ask (leb n 8192) TooLong Accepted) ≡ ask t InvalidGeometry (ask (leb n 8192) TooLong Accepted)
+    go : (t : Bool) → ask (t && true) InvalidGeometry (ask (leb n 8192) TooLong (Ok tt)) ≡ ask t InvalidGeometry (ask (leb n 8192) TooLong (Ok tt))
     go true = refl
     go false = refl
 
@@ -50,10 +48,10 @@ asked_most n = go (leb n 8192) refl
     go true e = omega (arith, leb-true n 8192 e)
     go false e = omega arith
 
-asked_all : (n : ℕ) → frames_verdict n ≡ Accepted → asked_frames n ≡ n
+asked_all : (n : ℕ) → frames_verdict n ≡ Ok tt → asked_frames n ≡ n
 asked_all n h = go (ltb 0 n) (leb n 8192) h
   where
-    go : (t u : Bool) → ask t InvalidGeometry (ask u TooLong Accepted) ≡ Accepted → cond u n 8193 ≡ n
+    go : (t u : Bool) → ask t InvalidGeometry (ask u TooLong (Ok tt)) ≡ Ok tt → cond u n 8193 ≡ n
     go true true e = refl
     go true false e = cc
     go false u e = cc
@@ -66,9 +64,9 @@ found_legal q c size head =
     walked_legal q 0 (begun c.format c.count size 0) (stages_of c) b.legal ∙ ap (λ (f : PcmFormat). suited f (stages_of c)) b.format ∙ sym (legal_is c size head)
 
 -- ---- what it answers
-same_answer : (v : Verdict) (w x : Walk) → (v ≡ Accepted → w ≡ x) → room_answer v w ≡ room_answer v x
-same_answer Accepted w x h = ap (room_answer Accepted) (h refl)
-same_answer (Refused e) w x h = refl
+same_answer : (v : Verdict) (w x : Walk) → (v ≡ Ok tt → w ≡ x) → room_answer v w ≡ room_answer v x
+same_answer (Ok tt) w x h = ap (room_answer (Ok tt)) (h refl)
+same_answer (Err e) w x h = refl
 
 module _ (c : Pipeline) (head : head_legal c.format c.count ≡ true) where
   module _ (n : ℕ) (channels : 0 < c.format.channels) where
@@ -88,9 +86,9 @@ module _ (c : Pipeline) (head : head_legal c.format c.count ≡ true) where
         ∙ same_answer (block_asked c n) (found Block c size) (found Block c (n * (c.format.channels * 2)))
         (λ h. ap (λ (k : ℕ). found Block c (k * (c.format.channels * 2))) (asked_all n (ask_yes (legal c) InvalidFormat (frames_verdict n) h).1))
 
-  pub finish_room_is : room_answer (ask (finish_found c).legal InvalidFormat Accepted) (finish_found c) ≡ finish_room c
+  pub finish_room_is : room_answer (ask (finish_found c).legal InvalidFormat (Ok tt)) (finish_found c) ≡ finish_room c
   unfolding finish_room
-  finish_room_is = ap (λ (t : Bool). room_answer (ask t InvalidFormat Accepted) (finish_found c)) (found_legal _ c 0 head)
+  finish_room_is = ap (λ (t : Bool). room_answer (ask t InvalidFormat (Ok tt)) (finish_found c)) (found_legal _ c 0 head)
 
 -- a chain that no call returned
 module _ (c : Pipeline) (h : legal c ≡ false) where

@@ -1,12 +1,11 @@
 -- The run after any calls on a chain that opening returned. Assumes nothing.
-use Rattle.std.specs.Prelude.{◌≡◌, true, ℕ, ◌≤◌, length}
+use Rattle.pcm.specs.Refusals.{Verdict}
+use Rattle.std.specs.Prelude.{◌≡◌, true, ℕ, ◌≤◌, length, Ok, Err}
 use Rattle.std.proofs.Common.{sym, ap, ◌∙◌, subst}
 use Rattle.std.proofs.Math.Path.{ap₂}
 use mathlib.Core.List.{List, [], ◌∷◌, append-nil, map}
 use Rattle.std.proofs.Math.Dec.{leb}
 use Rattle.pcm.specs.declared.PcmFormat.{PcmFormat}
-use Rattle.pcm.specs.declared.Verdict.{Verdict}
-use Rattle.pcm.specs.declared.Verdict.TheVariants.{Accepted, Refused}
 use Rattle.pcm.specs.Formats.{format_allowed}
 use Rattle.pcm.specs.Samples.{All}
 use Rattle.pcm.specs.Frames.{Frame, FramesOf, bytes_of}
@@ -110,8 +109,8 @@ module _ (o : Pipeline) (opened : FreshlyOpened o) where
   after_call_lem X r (finish a b) v lent = go (plain_finish o.format (kinds_in o) X (shorter a b)) (finish_plain v a b)
     where
       go : (w : Verdict) → finish_verdict r.chain (shorter a b) ≡ w → Stands (ended_by w X) (after_call r (finish a b))
-      go Accepted h = finish_accepted o opened.places few X r v a b h
-      go (Refused e) h = finish_refused o opened.places few X r v a b e h
+      go (Ok tt) h = finish_accepted o opened.places few X r v a b h
+      go (Err e) h = finish_refused o opened.places few X r v a b e h
 
   after_calls_lem : (S : Stream) (r : Run) (calls : List Call) → Stands S r → All Lent calls → Stands (stream_from o S calls) (after_calls o S r calls)
   after_calls_lem S r [] v lent = v

@@ -1,15 +1,13 @@
 -- Laws of the definitions in Counters. Assumes nothing.
-use Rattle.std.specs.Prelude.{◌≡◌, Bool, true, false, cond, List, [], ◌∷◌, ℕ, ◌+◌, ◌≤◌, ◌<◌, eqb, leb, ltb, length}
+use Rattle.std.specs.Prelude.{◌≡◌, Bool, true, false, cond, List, [], ◌∷◌, ℕ, ◌+◌, ◌≤◌, ◌<◌, eqb, leb, ltb, length, Ok, Err}
 use Rattle.std.proofs.Math.Path.{refl}
 use Rattle.std.proofs.Common.{sym, ap, ◌∙◌, arith, leb-true, ltb-true, ltb-false, le-leb}
 use Rattle.std.proofs.Math.Nat.{add-zero}
 use Rattle.std.proofs.lemmas.Bool.{lt-leb}
 use Rattle.pcm.specs.declared.PcmFormat.{PcmFormat}
 use Rattle.pcm.specs.declared.Error.TheVariants.{InvalidFormat}
-use Rattle.pcm.specs.declared.Verdict.{Verdict}
-use Rattle.pcm.specs.declared.Verdict.TheVariants.{Accepted, Refused}
 use Rattle.pcm.specs.Formats.{format_allowed}
-use Rattle.pcm.specs.Refusals.{ask}
+use Rattle.pcm.specs.Refusals.{ask, Verdict}
 use Rattle.pcm.specs.Samples.{All}
 use Rattle.pcm.specs.Frames.{Frame}
 use Rattle.pipeline.specs.declared.Pipeline.{Pipeline}
@@ -60,8 +58,8 @@ unfolding finish_call finished
 finish_counters c a b = go (finish_verdict c (shorter a b))
   where
     go : (w : Verdict) → ((finish_concluded w c (record { a = a; b = b })).chain.blocks ≡ c.blocks) × ((finish_concluded w c (record { a = a; b = b })).chain.empty_blocks ≡ c.empty_blocks)
-    go Accepted = reset_counters c
-    go (Refused e) = (refl, refl)
+    go (Ok tt) = reset_counters c
+    go (Err e) = (refl, refl)
 
 nothing_call : (r : Run) (call : Call) (n : ℕ) → r.chain.empty_blocks ≡ held_count n → (after_call r call).chain.empty_blocks ≡ held_count (n + nothing_by r call)
 unfolding block_call accepted
@@ -74,8 +72,8 @@ nothing_call r (block format t bytes a b) n e = go (block_verdict r.chain format
 
     go : (w : Verdict) → (concluded w r.chain t bytes (record { a = a; b = b })).chain.empty_blocks
         ≡ held_count (n + one_if_nothing (concluded w r.chain t bytes (record { a = a; b = b })).answer)
-    go (Refused x) = rw add-zero e
-    go Accepted = by_length (eqb (output_bytes r.chain bytes) 0) _ _ refl
+    go (Err x) = rw add-zero e
+    go (Ok tt) = by_length (eqb (output_bytes r.chain bytes) 0) _ _ refl
 nothing_call r reset n e = rw add-zero ((reset_counters r.chain).1 ∙ e)
 nothing_call r (finish a b) n e = (finish_counters r.chain a b).1 ∙ e ∙ ap held_count (sym (add-zero n))
 
@@ -101,8 +99,8 @@ module _ (o : Pipeline) (opened : FreshlyOpened o) where
       go : (w : Verdict) → block_verdict r.chain format (length bytes) (shorter a b) ≡ w
           → (concluded (block_verdict r.chain format (length bytes) (shorter a b)) r.chain t bytes (record { a = a; b = b })).chain.blocks
           ≡ held_count (n + one_if_accepted (plain_verdict o.format (kinds_in o) X format bytes (shorter a b)))
-      go (Refused x) h = rw (← verdict_plain o opened v format bytes a b, h, add-zero) e
-      go Accepted h = rw (← verdict_plain o opened v format bytes a b, h) (ap counted_up e ∙ one_more n)
+      go (Err x) h = rw (← verdict_plain o opened v format bytes a b, h, add-zero) e
+      go (Ok tt) h = rw (← verdict_plain o opened v format bytes a b, h) (ap counted_up e ∙ one_more n)
   counted_call X r reset n v e = rw add-zero ((reset_counters r.chain).0 ∙ e)
   counted_call X r (finish a b) n v e = rw add-zero ((finish_counters r.chain a b).0 ∙ e)
 
@@ -124,4 +122,4 @@ opened_counters f (refused e) = (refl, refl)
 
 pub open_counters : (f : PcmFormat) (recipe : List ℕ) → ((open_call f recipe).chain.blocks ≡ 0) × ((open_call f recipe).chain.empty_blocks ≡ 0)
 unfolding open_call
-open_counters f recipe = opened_counters f (asked (ask (format_allowed f) InvalidFormat Accepted) (open_stages 8 f recipe))
+open_counters f recipe = opened_counters f (asked (ask (format_allowed f) InvalidFormat (Ok tt)) (open_stages 8 f recipe))

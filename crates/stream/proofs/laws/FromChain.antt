@@ -1,11 +1,10 @@
 -- A stream's run from whatever chain it began with, call by call, by the laws of the stages. Assumes nothing.
-use Rattle.std.specs.Prelude.{◌≡◌, refl, ℕ, ◌+◌, ◌≤◌, length, drop}
+use Rattle.pcm.specs.Refusals.{Verdict}
+use Rattle.std.specs.Prelude.{◌≡◌, refl, ℕ, ◌+◌, ◌≤◌, length, drop, Ok, Err}
 use Rattle.std.proofs.Common.{sym, ap, ap₂, ◌∙◌, subst, add-zero, arith}
 use mathlib.Core.List.{List, [], ◌++◌, append-nil, map}
 use Rattle.pcm.specs.declared.PcmFormat.{PcmFormat}
 use Rattle.pcm.specs.declared.Error.{Error}
-use Rattle.pcm.specs.declared.Verdict.{Verdict}
-use Rattle.pcm.specs.declared.Verdict.TheVariants.{Accepted, Refused}
 use Rattle.pcm.specs.Samples.{Bytes}
 use Rattle.pcm.specs.Frames.{Frame, FrameOf, FramesOf, frames_of, bytes_of}
 use Rattle.pcm.specs.laws.Frames.{bytes-append, frames_are_frames, all_append}
@@ -102,11 +101,11 @@ module _ (o : Pipeline) (places : length o.stages ≡ 8) (few : o.count ≤ 8) w
         frames = v.frames;
       }
 
-      pub finish_accepted : finish_verdict r.chain (shorter a b) ≡ Accepted → EndedSince o X (after_call r (finish a b))
+      pub finish_accepted : finish_verdict r.chain (shorter a b) ≡ Ok tt → EndedSince o X (after_call r (finish a b))
       unfolding finish_call
       finish_accepted h = rw h after_accepted_finish
 
-      pub finish_refused : (e : Error) → finish_verdict r.chain (shorter a b) ≡ Refused e → Since o X (after_call r (finish a b))
+      pub finish_refused : (e : Error) → finish_verdict r.chain (shorter a b) ≡ Err e → Since o X (after_call r (finish a b))
       unfolding finish_call
       finish_refused e h = rw (h, append-nil, add-zero) v
 
@@ -134,8 +133,8 @@ module _ (o : Pipeline) (places : length o.stages ≡ 8) (few : o.count ≤ 8) w
 
       pub after_block : (w : Verdict) → block_verdict r.chain format (length bytes) (shorter a b) ≡ w → Since o (X ++ added_by w Y) (after_call r (block format t bytes a b))
       unfolding block_call
-      after_block (Refused e) h = rw h after_refused
-      after_block Accepted h = rw h (after_accepted (accepts r.chain format bytes a b h))
+      after_block (Err e) h = rw h after_refused
+      after_block (Ok tt) h = rw h (after_accepted (accepts r.chain format bytes a b h))
 
   -- ---- after a finish a stream begins as after a reset
   pub anew : (X : List Frame) (r : Run) → EndedSince o X r → Since (reset_call o) [] (fresh r.chain)

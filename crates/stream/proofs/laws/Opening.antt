@@ -1,13 +1,12 @@
 -- What opening accepts is a chain as `FreshlyOpened` says. Assumes nothing.
-use Rattle.std.specs.Prelude.{◌≡◌, refl, Bool, true, false, ◌&&◌, cond, ℕ, ◌-◌, ◌≤◌, ◌<◌, length}
+use Rattle.pcm.specs.Refusals.{Verdict}
+use Rattle.std.specs.Prelude.{◌≡◌, refl, Bool, true, false, ◌&&◌, cond, ℕ, ◌-◌, ◌≤◌, ◌<◌, length, Ok, Err}
 use Rattle.std.proofs.Common.{sym, ap₂, ◌∙◌, subst, div-le_self, arith, lt-ltb, le-leb, eq-eqb}
 use Rattle.std.proofs.Math.Path.{ap}
 use mathlib.Core.List.{List, [], ◌∷◌, ◌++◌, map}
 use Rattle.std.proofs.Math.ListN.{replicate}
 use Rattle.std.proofs.lemmas.List.{length-map, length-replicate}
 use Rattle.pcm.specs.declared.PcmFormat.{PcmFormat}
-use Rattle.pcm.specs.declared.Verdict.{Verdict}
-use Rattle.pcm.specs.declared.Verdict.TheVariants.{Accepted, Refused}
 use Rattle.pcm.specs.Formats.{format_allowed}
 use Rattle.pcm.specs.Samples.{All}
 use Rattle.rates.specs.Divisor.{gcd}
@@ -76,9 +75,9 @@ no_stages : (more : ℕ) (f : PcmFormat) → StagesOpened more f []
 unfolding suited
 no_stages more f = record { kinds = []; stages = refl; few = omega arith; suit = refl; rates = tt }
 
-asked_first : (more : ℕ) (f : PcmFormat) (v : Verdict) (s : Stages) → (v ≡ Accepted → UnlessRefused more f s) → UnlessRefused more f (asked v s)
-asked_first more f Accepted s h = h refl
-asked_first more f (Refused e) s h = tt
+asked_first : (more : ℕ) (f : PcmFormat) (v : Verdict) (s : Stages) → (v ≡ Ok tt → UnlessRefused more f s) → UnlessRefused more f (asked v s)
+asked_first more f (Ok tt) s h = h refl
+asked_first more f (Err e) s h = tt
 
 -- a note, or a stage
 either_opened : (more : ℕ) (f : PcmFormat) (note : Bool) (a b : Stages) → UnlessRefused more f a → UnlessRefused more f b → UnlessRefused more f (cond note a b)
@@ -127,6 +126,6 @@ module _ (f : PcmFormat) (allowed : format_allowed f ≡ true) where
       (opened_with f v.kinds (replicate (8 - length v.kinds) unused_stage) 0 0 (omega (arith, v.few, length-replicate (8 - length v.kinds) unused_stage)) allowed
       (sym (ap (suited f) v.stages) ∙ v.suit) v.rates)
 
-  pub stages_chain : (s : Stages) → UnlessRefused 8 f s → (opened_of f s).verdict ≡ Accepted → FreshlyOpened (opened_of f s).chain
+  pub stages_chain : (s : Stages) → UnlessRefused 8 f s → (opened_of f s).verdict ≡ Ok tt → FreshlyOpened (opened_of f s).chain
   stages_chain (opened ss) v h = chain_opened ss v
   stages_chain (refused e) v h = zero_not_one (cc)

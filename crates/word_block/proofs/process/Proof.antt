@@ -1,8 +1,8 @@
 -- `word_block::process` meets its contract: THE BLOCK CALL ON WORDS. Assumes nothing.
+use Rattle.std.specs.Prelude.{Ok}
 use borrow.Author.Rules.{rules}
 use mathlib.Core.Path.{◌≡◌, refl, sym, ap, ◌∙◌}
 use lib.ListN.{length}
-use Rattle.pcm.specs.declared.Verdict.TheVariants.{Accepted}
 use Rattle.block.specs.BlockCall.{shorter, block_verdict}
 use Rattle.block.specs.laws.Steps.{accepts}
 use Rattle.block.specs.laws.Concluding.{refused_is, accepted_call}
@@ -22,8 +22,8 @@ module _ (c : tie.In-Accepted) where
   abbrev k : tie.After-asked-verdict
   k = c.before
 
-  accepted : block_verdict (chain_of_words (s k).args.words.now) (s k).args.format (length (s k).args.sound.now) (shorter (s k).args.a.now (s k).args.b.now) ≡ Accepted
-  accepted = sym (verdict k) ∙ c.in-Accepted.is
+  accepted : block_verdict (chain_of_words (s k).args.words.now) (s k).args.format (length (s k).args.sound.now) (shorter (s k).args.a.now (s k).args.b.now) ≡ Ok tt
+  accepted = sym (verdict k) ∙ c.in-Ok.is
 
 pub process_spec : {M : Type 1} → statement M
 process_spec = tie.close (tie.spec
@@ -45,6 +45,6 @@ process_spec = tie.close (tie.spec
     let v = c in
     let n = v.before in
     let a = (s n).args in (
-      refused_is (chain_of_words a.words.now) a.format a.timestamp a.sound.now a.a.now a.b.now _ _ _ refl refl (sym (verdict n) ∙ c.in-Refused.is),
+      refused_is (chain_of_words a.words.now) a.format a.timestamp a.sound.now a.a.now a.b.now _ _ _ refl refl (sym (verdict n) ∙ c.in-Err.is),
       refl,
     )))

@@ -1,10 +1,10 @@
 -- `word_block::scratch_bytes` meets its contract. Assumes nothing.
+use Rattle.pcm.specs.Refusals.{Verdict}
 use borrow.Author.Rules.{rules}
 use mathlib.Core.Path.{◌≡◌, sym, ap, ◌∙◌}
 use mathlib.Core.Bool.{true}
 use Prim.Native.Nat.{◌*◌}
 use native.Mathlib.Omega.{arith}
-use Rattle.pcm.specs.declared.Verdict.{Verdict}
 use Rattle.questions.specs.Walk.{head_legal}
 use Rattle.block.specs.BlockCall.{scratch_answer, scratch_bytes}
 use Rattle.block.specs.laws.Asking.{Head, head_parts, asks_begin}
@@ -47,5 +47,5 @@ scratch_bytes_spec = tie.close (tie.spec
     (λ c. search rules)
     (λ c. record { fits = omega (arith, c.walked-walk.ensures.largest) })
     (λ c. search rules)
-    (λ c. let v = c.before.before in ap (λ (x : Verdict). scratch_answer x (2 * c.walked-walk.result.largest)) (sym c.in-Accepted.is) ∙ answers v)
-    (λ c. let v = c.before in ap (λ (x : Verdict). scratch_answer x (2 * c.walked-walk.result.largest)) (sym c.in-Refused.is) ∙ answers v))
+    (λ c. let v = c.before.before in ap (λ (x : Verdict). scratch_answer x (2 * c.walked-walk.result.largest)) (sym c.in-Ok.is) ∙ answers v)
+    (λ c. let v = c.before in ap (λ (x : Verdict). scratch_answer x (2 * c.walked-walk.result.largest)) (sym c.in-Err.is) ∙ answers v))

@@ -14,16 +14,16 @@ use Rattle.word_finish.proofs.finish.Tie as tie
 pub finish_spec : {M : Type 1} → statement M
 finish_spec = tie.close (tie.spec
     (λ c κs. search rules) (λ c κs. search rules) (λ c. search rules) (λ c κs. search rules) (λ c. search rules)
-    (λ c κs. finishes _ c.args.a.now c.args.b.now _ _ c.shorter_of-shorter.ensures c.asked-verdict.ensures c.in-Accepted.is)
+    (λ c κs. finishes _ c.args.a.now c.args.b.now _ _ c.shorter_of-shorter.ensures c.asked-verdict.ensures c.in-Ok.is)
     (λ c κs. search rules) (λ c. search rules)
     (λ c. (
-      outcome_is _ _ _ (refused_call (chain_of_words c.args.words.now) c.args.a.now c.args.b.now _ _ c.shorter_of-shorter.ensures c.asked-verdict.ensures _ c.in-Refused.is) c.told.ensures,
+      outcome_is _ _ _ (refused_call (chain_of_words c.args.words.now) c.args.a.now c.args.b.now _ _ c.shorter_of-shorter.ensures c.asked-verdict.ensures _ c.in-Err.is) c.told.ensures,
       rw c.told.ensures,
     ))
     (λ c. search rules) (λ c. search rules) (λ c. search rules)
     (λ c.
     let e = ap (λ (r : FinishResult). (finish_told r.answer).outcome) c.play.ensures.0 in (
-      outcome_is _ _ _ (c.play.ensures.0 ∙ accepted_call (chain_of_words c.args.words.now) c.args.a.now c.args.b.now _ _ c.shorter_of-shorter.ensures c.asked-verdict.ensures c.in-Accepted.is) c.told-in-Accepted.ensures,
+      outcome_is _ _ _ (c.play.ensures.0 ∙ accepted_call (chain_of_words c.args.words.now) c.args.a.now c.args.b.now _ _ c.shorter_of-shorter.ensures c.asked-verdict.ensures c.in-Ok.is) c.told-in-Ok.ensures,
       c.play.ensures.1 ∙ finished_outcome (chain_of_words c.args.words.now) _ c.args.words.now
-          ∙ ap (λ (n : ℕ). finish_words n c.args.words.now) (sym (ap (λ (x : FinishTold). x.outcome) c.told-in-Accepted.ensures ∙ e)),
+          ∙ ap (λ (n : ℕ). finish_words n c.args.words.now) (sym (ap (λ (x : FinishTold). x.outcome) c.told-in-Ok.ensures ∙ e)),
     )))

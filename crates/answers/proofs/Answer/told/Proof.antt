@@ -9,4 +9,4 @@ told_spec = tie.close (tie.spec
     (λ c κs. search rules) (λ c κs. search rules)
     (λ c. rw (c.in-Output.is, c.number.ensures))
     (λ c. rw (c.in-NothingYet.is, c.silent.ensures))
-    (λ c. rw (c.in-Refused.is, c.silent-in-Refused.ensures, c.number-in-Refused.ensures, c.needed.ensures)))
+    (λ c. rw (c.in-Err.is, c.silent-in-Err.ensures, c.number-in-Err.ensures, c.needed.ensures)))

@@ -1,11 +1,12 @@
 -- `cookbook::Coefficients::design` meets its contract: each kind by its own formulas. Assumes nothing.
+use Rattle.pcm.specs.declared.Error.{Error}
+use Rattle.cookbook.specs.declared.Coefficients.{Coefficients}
+use Rattle.std.specs.Prelude.{Ok, Err, Result}
 use Rattle.std.proofs.Common.{◌≡◌, ℕ, Bool, true, false, cond, ◌&&◌, refl, ap, ◌∙◌, rules}
 use lib.Ieee.{Float, of_bits, of_int, round}
 use Rattle.pcm.specs.declared.Error.TheVariants.{InvalidFormat}
 use Rattle.cookbook.specs.Cookbook.{quality, alpha_of, design_allowed, cookbook, normalised, coefficients_of, design_verdict, design_answer, design_told, design_valued}
 use Rattle.cookbook.specs.declared.BiquadKind.{BiquadKind}
-use Rattle.cookbook.specs.declared.DesignAnswer.{DesignAnswer}
-use Rattle.cookbook.specs.declared.DesignAnswer.TheVariants.{Designed, Refused}
 use Rattle.cookbook.specs.declared.Section.{Section}
 use Rattle.cookbook.proofs.Coefficients.design.Statement.{statement}
 use Rattle.cookbook.proofs.Coefficients.design.Tie as tie
@@ -21,7 +22,7 @@ module _ (kind : BiquadKind) (rate : ℕ) (sine cosine a : Float) where
   told_is true e = rw e
   told_is false e = rw e
 
-  answered : {t : Bool} {s : Section} {d : DesignAnswer} {k : BiquadKind} → kind ≡ k → d ≡ cond t (Designed (normalised s)) (Refused InvalidFormat)
+  answered : {t : Bool} {s : Section} {d : (Result Coefficients Error)} {k : BiquadKind} → kind ≡ k → d ≡ cond t (Ok (normalised s)) (Err InvalidFormat)
       → t ≡ design_allowed k rate sine cosine a → s ≡ cookbook k cosine (alpha_of sine (quality k)) a
       → (d ≡ design_answer kind rate sine cosine a) × (design_told d ≡ design_valued (design_verdict kind rate sine cosine a) (coefficients_of kind sine cosine a))
   unfolding design_answer coefficients_of

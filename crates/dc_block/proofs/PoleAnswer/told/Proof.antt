@@ -7,4 +7,4 @@ use Rattle.dc_block.proofs.PoleAnswer.told.Tie as tie
 pub told_spec : {M : Type 1} → statement M
 unfolding of_bits
 told_spec = tie.close (tie.spec (λ c. search rules) (λ c. search rules) (λ c κs. search rules)
-    (λ c. rw c.in-Pole.is) (λ c. rw (c.number.ensures, c.in-Refused.is)))
+    (λ c. rw c.in-Pole.is) (λ c. rw (c.number.ensures, c.in-Err.is)))

@@ -4,4 +4,4 @@ use Rattle.opening.proofs.StageAnswer.verdict.Statement.{statement}
 use Rattle.opening.proofs.StageAnswer.verdict.Tie as tie
 
 pub verdict_spec : {M : Type 1} → statement M
-verdict_spec = tie.close (tie.spec (λ c. search rules) (λ c. search rules) (λ c. search rules) (λ c. rw c.in-Refused.is))
+verdict_spec = tie.close (tie.spec (λ c. search rules) (λ c. search rules) (λ c. search rules) (λ c. rw c.in-Err.is))

@@ -1,4 +1,5 @@
 -- `pipeline::Pipeline::open` meets its contract. Assumes nothing.
+use Rattle.std.specs.Prelude.{Ok}
 use borrow.Author.Rules.{rules}
 use mathlib.Core.Path.{◌≡◌, sym, ap, ◌∙◌}
 use mathlib.Core.Bool.{true}
@@ -11,8 +12,6 @@ use Rattle.pcm.specs.Formats.{format_allowed}
 use Rattle.recipe.specs.Records.{read_record}
 use Rattle.recipe.specs.laws.Records.{record_four}
 use Rattle.recipe.specs.declared.Entry.TheVariants as entered
-use Rattle.recipe.specs.declared.RecordAnswer.TheVariants as read
-use Rattle.opening.specs.declared.StageAnswer.TheVariants as answer
 use Rattle.opening.specs.Opening.{stage_answer}
 use Rattle.pipeline.proofs.Opens.{Opens, opens_start, opens_end, opens_short, note_within, opens_note, opens_size, opens_unfit, opens_room, opens_next, call_format, call_refused, call_opened, chain_is}
 use Rattle.pipeline.proofs.Pipeline.open.Statement.{statement}
@@ -47,19 +46,19 @@ left_of l = drop l.loop-at.at (entry l).args.recipe.now
 left_some : (c : tie.In-Entry invariant-loop decreases-loop) → (loop_of c).loop-at.at < length (entry (loop_of c)).args.recipe.now
 left_some c = c.loop-at-test.true
 
-found : (c : tie.In-Entry invariant-loop decreases-loop) → read_record (left_of (loop_of c)) ≡ read.Entry c.in-Entry.entry
+found : (c : tie.In-Entry invariant-loop decreases-loop) → read_record (left_of (loop_of c)) ≡ Ok c.in-Entry.entry
 found c = sym (read_is c.before) ∙ c.in-Entry.is
 
 -- a note, and a stage's record
-noted : (c : tie.In-Note invariant-loop decreases-loop) → read_record (left_of (loop_of c.before)) ≡ read.Entry (entered.Note c.in-Note.length)
-noted c = found c.before ∙ ap read.Entry c.in-Note.is
+noted : (c : tie.In-Note invariant-loop decreases-loop) → read_record (left_of (loop_of c.before)) ≡ Ok (entered.Note c.in-Note.length)
+noted c = found c.before ∙ ap Ok c.in-Note.is
 
-recorded : (c : tie.In-Stage invariant-loop decreases-loop) → read_record (left_of (loop_of c.before)) ≡ read.Entry (entered.Stage c.in-Stage.record)
-recorded c = found c.before ∙ ap read.Entry c.in-Stage.is
+recorded : (c : tie.In-Stage invariant-loop decreases-loop) → read_record (left_of (loop_of c.before)) ≡ Ok (entered.Stage c.in-Stage.record)
+recorded c = found c.before ∙ ap Ok c.in-Stage.is
 
 taken : (c : tie.In-Stage-made invariant-loop decreases-loop)
     → stage_answer (8 - (loop_of c.before.before.before).loop-at.count) (loop_of c.before.before.before).loop-at.reaching
-    c.in-Stage.record ≡ answer.Stage c.in-Stage-made.kind
+    c.in-Stage.record ≡ Ok c.in-Stage-made.kind
 taken c = sym c.stage_of-made.ensures ∙ c.in-Stage-made.is
 
 returns : tie.Need-returns-then-not-allowed invariant-loop decreases-loop

@@ -1,4 +1,5 @@
 -- `pipeline::Pipeline::write_recipe` meets its contract. Assumes nothing.
+use Rattle.std.specs.Prelude.{Err}
 use borrow.Author.Rules.{rules}
 use borrow.Author.Tests.{lt-leb}
 use mathlib.Core.Path.{◌≡◌, refl, sym, ap, ◌∙◌}
@@ -6,7 +7,6 @@ use Prim.Native.Nat.{ℕ, ◌≤◌}
 use lib.ListN.{length}
 use Rattle.pcm.specs.Refusals.{room_verdict}
 use Rattle.pcm.specs.laws.Refusals.{room_enough}
-use Rattle.pcm.specs.declared.Verdict.TheVariants.{Refused}
 use Rattle.writing.specs.WritingBack.{recipe_of}
 use Rattle.pipeline.specs.WritingBack.{stages_of, write_verdict, write_call}
 use Rattle.pipeline.specs.laws.WritingBack.{concluded, wrote}
@@ -16,7 +16,7 @@ use Rattle.pipeline.proofs.Pipeline.write_recipe.Tie as tie
 
 returns : tie.Need-returns-then-count-gt8
 unfolding write_call write_verdict
-returns c = let a = c.args in concluded (write_verdict a.self (length a.out.now)) (recipe_of (stages_of a.self)) a.out.now _ _ (Refused _) (rw (lt-leb _ 8 c.if-count-gt8.true)) refl
+returns c = let a = c.args in concluded (write_verdict a.self (length a.out.now)) (recipe_of (stages_of a.self)) a.out.now _ _ (Err _) (rw (lt-leb _ 8 c.if-count-gt8.true)) refl
 
 abbrev start : tie.After-require_room-room → tie.Start
 start c = c.before.before.before.before.before
@@ -37,12 +37,12 @@ room c =
     let a = (start q).args in
     room_enough _ _ (ap (λ (n : ℕ). room_verdict n (length a.out.now)) (sym c.recipe_size-needed.ensures) ∙ sym c.require_room-room.ensures ∙ c.in_default.is)
 
-returns-2 : tie.Need-returns-in-Refused
+returns-2 : tie.Need-returns-in-Err
 unfolding write_call
 returns-2 c =
     let q = c.before in
     let a = (start q).args in
-    concluded (write_verdict a.self (length a.out.now)) (recipe_of (stages_of a.self)) a.out.now _ _ (Refused _) (asked q ∙ c.in-Refused.is) refl
+    concluded (write_verdict a.self (length a.out.now)) (recipe_of (stages_of a.self)) a.out.now _ _ (Err _) (asked q ∙ c.in-Err.is) refl
 
 returns-3 : tie.Need-returns
 unfolding write_call

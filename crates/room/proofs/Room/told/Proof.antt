@@ -7,4 +7,4 @@ pub told_spec : {M : Type 1} → statement M
 told_spec = tie.close (tie.spec
     (λ c. search rules) (λ c. search rules) (λ c κs. search rules)
     (λ c. rw c.in-Known.is)
-    (λ c. rw (c.in-Refused.is, c.number.ensures)))
+    (λ c. rw (c.in-Err.is, c.number.ensures)))
