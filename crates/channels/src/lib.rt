@@ -7,42 +7,7 @@ ghost use Rattle.pcm.specs.Samples.{sample_at, encode, decode, outside16};
 ghost use Rattle.mean.specs.Mean.{mean};
 ghost use Rattle.channels.specs.Channels.{stereo_bytes, mono_bytes, mixed, mixed_bytes, mix_clipped, mix_verdict, mix_answer, after_mix, mix_told, told_of_mixing};
 
-use pcm::{Error};
-
-// What a mix comes to: how many sums were held back, or why it is refused.
-#[derive(Clone, Copy)]
-pub enum MixAnswer {
-    Mixed { clipped: usize },
-    Refused(Error),
-}
-
-// The paper's number, needed and count of a MixAnswer.
-#[derive(Clone, Copy)]
-pub struct MixTold {
-    pub number: u16,
-    pub needed: usize,
-    pub clipped: usize,
-}
-
-impl MixAnswer {
-    // Number and values of each case.
-    pub fn told(self) -> MixTold
-        ensures { result ≡ mix_told self }
-    {
-        match self {
-            MixAnswer::Mixed { clipped } => MixTold {
-                number: 0,
-                needed: 0,
-                clipped,
-            },
-            MixAnswer::Refused(e) => MixTold {
-                number: e.number(),
-                needed: e.needed(),
-                clipped: 0,
-            },
-        }
-    }
-}
+use pcm::Error;
 
 // Each mono sample of input on both channels, at the front of out.
 pub fn mono_to_stereo(input: &[u8], out: &mut [u8])
@@ -188,25 +153,19 @@ fn mix_clipped(a: &[u8], b: &[u8]) -> usize
     c
 }
 
-// Two streams of equal and even length summed to the front of out, saturating, and how many sums were held back; a refusal leaves out
-// as it was.
-pub fn mix_i16(a: &[u8], b: &[u8], out: &mut [u8]) -> MixAnswer
+// Two streams of equal and even length summed to the front of out, saturating: how many sums were held back. A refusal leaves out as it
+// was.
+#[tactic(auto, unfolding(crate::specs::Channels::mix_answer, crate::specs::Channels::mix_verdict, pcm::specs::Refusals::room_verdict))]
+pub fn mix_i16(a: &[u8], b: &[u8], out: &mut [u8]) -> Result<usize, Error>
     ensures value { (result ≡ mix_answer a.now b.now out.old) × (out.new ≡ after_mix result a.now b.now out.old) }
     ensures told { mix_told result ≡ told_of_mixing (mix_verdict a.now b.now out.old) (mix_clipped (decode a.now) (decode b.now)) }
 {
     let n = a.len();
-    if n != b.len() {
-        return MixAnswer::Refused(Error::InvalidGeometry);
+    if n != b.len() || n % 2 != 0 {
+        return Err(Error::InvalidGeometry);
     }
-    if n % 2 != 0 {
-        return MixAnswer::Refused(Error::InvalidGeometry);
-    }
-    match pcm::require_room(out, n) {
-        Err(e) => MixAnswer::Refused(e),
-        Ok(()) => {
-            let count = mix_clipped(a, b);
-            mix_block(a, b, out);
-            MixAnswer::Mixed { clipped: count }
-        }
-    }
+    pcm::require_room(out, n)?;
+    let clipped = mix_clipped(a, b);
+    mix_block(a, b, out);
+    Ok(clipped)
 }

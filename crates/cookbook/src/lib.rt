@@ -38,42 +38,6 @@ pub struct Section {
     pub a2: f64,
 }
 
-#[derive(Clone, Copy)]
-pub enum DesignAnswer {
-    Designed(Coefficients),
-    Refused(Error),
-}
-
-// 0 and the coefficients, or a refusal's number and five times 0.
-#[derive(Clone, Copy)]
-pub struct DesignTold {
-    pub number: u16,
-    pub coefficients: Coefficients,
-}
-
-impl DesignAnswer {
-    pub fn told(self) -> DesignTold
-        ensures { result ≡ design_told self }
-    {
-        match self {
-            DesignAnswer::Designed(coefficients) => DesignTold {
-                number: 0,
-                coefficients,
-            },
-            DesignAnswer::Refused(e) => DesignTold {
-                number: e.number(),
-                coefficients: Coefficients {
-                    b0: 0.0,
-                    b1: 0.0,
-                    b2: 0.0,
-                    a1: 0.0,
-                    a2: 0.0,
-                },
-            },
-        }
-    }
-}
-
 impl Coefficients {
     // The flat filter.
     pub const IDENTITY: Coefficients = Coefficients {
@@ -92,7 +56,7 @@ impl Coefficients {
 
     // The coefficients of a kind at a rate. The caller has worked out the sine and the cosine of w0 = 2π * f0 / rate and, for Peak,
     // a = 10^(gain_db / 40).
-    pub fn design(kind: BiquadKind, rate: u32, sine: f64, cosine: f64, a: f64) -> DesignAnswer
+    pub fn design(kind: BiquadKind, rate: u32, sine: f64, cosine: f64, a: f64) -> Result<Coefficients, Error>
         ensures value { result ≡ design_answer kind rate sine cosine a }
         ensures told { design_told result ≡ design_valued (design_verdict kind rate sine cosine a) (coefficients_of kind sine cosine a) }
     {
@@ -131,13 +95,13 @@ impl Coefficients {
 }
 
 // Where the settings are allowed, the section's coefficients.
-fn designed(allowed: bool, section: Section) -> DesignAnswer
-    ensures { result ≡ (if allowed then DesignAnswer.Designed (normalised section) else DesignAnswer.Refused InvalidFormat) }
+fn designed(allowed: bool, section: Section) -> Result<Coefficients, Error>
+    ensures { result ≡ (if allowed then Ok (normalised section) else Err InvalidFormat) }
 {
-    if allowed {
-        return DesignAnswer::Designed(section.normalise());
+    if !allowed {
+        return Err(Error::InvalidFormat);
     }
-    DesignAnswer::Refused(Error::InvalidFormat)
+    Ok(section.normalise())
 }
 
 // Whether the settings that every kind has make a filter; a NaN fails each test.

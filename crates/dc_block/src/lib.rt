@@ -15,33 +15,6 @@ use pcm::Error;
 // 2π as a binary32.
 const TAU: f32 = 6.2831855;
 
-#[derive(Clone, Copy)]
-pub enum PoleAnswer {
-    Pole(f32),
-    Refused(Error),
-}
-
-// 0 and the pole, or a refusal's number and 0.
-#[derive(Clone, Copy)]
-pub struct PoleTold {
-    pub number: u16,
-    pub pole: f32,
-}
-
-impl PoleAnswer {
-    pub fn told(self) -> PoleTold
-        ensures { result ≡ pole_told self }
-    {
-        match self {
-            PoleAnswer::Pole(pole) => PoleTold { number: 0, pole },
-            PoleAnswer::Refused(e) => PoleTold {
-                number: e.number(),
-                pole: 0.0,
-            },
-        }
-    }
-}
-
 // The corner's bits, as they came, and the pole, +0 until the filter is tuned to a rate.
 #[derive(Clone, Copy)]
 pub struct DcBlock {
@@ -70,15 +43,16 @@ impl DcBlock {
         DcBlock { corner, r: 0.0 }
     }
 
+    #[tactic(auto, unfolding(crate::specs::DcBlock::pole_answer, crate::specs::DcBlock::pole_verdict))]
     // The pole for a rate, refused where the rate is not within its limit.
-    pub fn pole(corner: f32, rate: u32) -> PoleAnswer
+    pub fn pole(corner: f32, rate: u32) -> Result<f32, Error>
         ensures value { result ≡ pole_answer corner rate }
         ensures told { pole_told result ≡ pole_valued (pole_verdict rate) (pole_of corner rate) }
     {
-        if pcm::rate_allowed(rate) {
-            return PoleAnswer::Pole(radius(corner, rate));
+        if !pcm::rate_allowed(rate) {
+            return Err(Error::InvalidFormat);
         }
-        PoleAnswer::Refused(Error::InvalidFormat)
+        Ok(radius(corner, rate))
     }
 
     // The filter with its pole for an allowed rate.

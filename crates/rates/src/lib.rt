@@ -26,52 +26,6 @@ pub struct ResamplerState {
     pub primed: bool,
 }
 
-#[derive(Clone, Copy)]
-pub enum NewResampler {
-    Made(LinearResampler),
-    Refused(Error),
-}
-
-#[derive(Clone, Copy)]
-pub enum MaxFrames {
-    Frames(usize),
-    Refused(Error),
-}
-
-impl NewResampler {
-    // 0, or the refusal's number.
-    pub fn number(self) -> u16
-        ensures { result ≡ (new_told self).number }
-    {
-        match self {
-            NewResampler::Made(_) => 0,
-            NewResampler::Refused(e) => e.number(),
-        }
-    }
-}
-
-impl MaxFrames {
-    // 0, or the refusal's number.
-    pub fn number(self) -> u16
-        ensures { result ≡ (max_told self).number }
-    {
-        match self {
-            MaxFrames::Frames(_) => 0,
-            MaxFrames::Refused(e) => e.number(),
-        }
-    }
-
-    // The frames, or 0.
-    pub fn value(self) -> usize
-        ensures { result ≡ (max_told self).value }
-    {
-        match self {
-            MaxFrames::Frames(n) => n,
-            MaxFrames::Refused(_) => 0,
-        }
-    }
-}
-
 impl ResamplerState {
     // As opened, and after a reset.
     pub fn new() -> ResamplerState
@@ -149,20 +103,21 @@ pub fn first_position(out_r: u64, primed: bool, phase: u64) -> u64
 
 impl LinearResampler {
     // A resampler between two rates of 1 to 384,000.
-    pub fn new(in_rate: u32, out_rate: u32) -> NewResampler
+    #[tactic(auto, unfolding(crate::specs::Rates::resampler_of, crate::specs::Rates::reduced), using(crate::specs::laws::Rates::rates_within, crate::specs::laws::Divisor::gcd_positive))]
+    pub fn new(in_rate: u32, out_rate: u32) -> Result<LinearResampler, Error>
         ensures value { result ≡ resampler_of in_rate out_rate }
         ensures told { new_told result ≡ rates_told (new_verdict in_rate out_rate) (in_rate / gcd in_rate out_rate) (out_rate / gcd in_rate out_rate) }
     {
-        if rates_allowed(in_rate, out_rate) {
-            let g = gcd(in_rate, out_rate);
-            return NewResampler::Made(LinearResampler {
-                in_rate: in_rate,
-                out_rate: out_rate,
-                in_r: quotient(in_rate, g) as u64,
-                out_r: quotient(out_rate, g) as u64,
-            });
+        if !rates_allowed(in_rate, out_rate) {
+            return Err(Error::InvalidFormat);
         }
-        NewResampler::Refused(Error::InvalidFormat)
+        let g = gcd(in_rate, out_rate);
+        Ok(LinearResampler {
+            in_rate,
+            out_rate,
+            in_r: quotient(in_rate, g) as u64,
+            out_r: quotient(out_rate, g) as u64,
+        })
     }
 
     // The room wanted for any number of frames, in frames. The caller keeps the product within 64 bits.
@@ -176,17 +131,18 @@ impl LinearResampler {
     }
 
     // The room wanted for a block of at most 8,192 frames, in frames.
-    pub fn max_output_frames(self, frames: usize) -> MaxFrames
+    #[tactic(auto, unfolding(crate::specs::Rates::max_frames), using(crate::specs::laws::Rates::rates_within))]
+    pub fn max_output_frames(self, frames: usize) -> Result<usize, Error>
         ensures value { result ≡ max_frames self frames }
         ensures told { max_told result ≡ valued (max_verdict self frames) (room_frames self.in_rate self.out_rate frames) }
     {
-        if rates_allowed(self.in_rate, self.out_rate) {
-            if frames <= pcm::MAX_FRAMES {
-                return MaxFrames::Frames(self.room_frames(frames));
-            }
-            return MaxFrames::Refused(Error::TooLong);
+        if !rates_allowed(self.in_rate, self.out_rate) {
+            return Err(Error::InvalidFormat);
         }
-        MaxFrames::Refused(Error::InvalidFormat)
+        if frames > pcm::MAX_FRAMES {
+            return Err(Error::TooLong);
+        }
+        Ok(self.room_frames(frames))
     }
 
     // How many frames the stage makes of so many, from the phase alone: exact, at equal rates also.
