@@ -57,7 +57,3 @@ stage_answer_of (Err e) k = Err e
 
 abbrev pub stage_answer : ℕ → PcmFormat → Record → Result StageKind Error
 stage_answer more f r = stage_answer_of (stage_verdict more f r) (stage_kind_of f r)
-
-abbrev pub stage_answer_verdict : (Result StageKind Error) → Verdict
-stage_answer_verdict (Ok k) = Ok tt
-stage_answer_verdict (Err e) = Err e

@@ -4,33 +4,15 @@
 ghost use Rattle.std.specs.Prelude.{◌≡◌, true, ◌-◌};
 ghost use Rattle.pcm.specs.Formats.{rate_allowed};
 ghost use Rattle.rates.specs.Rates.{rates_allowed, reduced};
-ghost use Rattle.opening.specs.Opening.{settings_allowed, record_suits, stage_kind_of, stage_answer, stage_answer_verdict};
+ghost use Rattle.opening.specs.Opening.{settings_allowed, record_suits, stage_kind_of, stage_answer};
 
 use biquad::Biquad;
 use dc_block::DcBlock;
 use gain::Gain;
 use pcm::{Error, PcmFormat};
-use rates::{LinearResampler, NewResampler};
+use rates::LinearResampler;
 use recipe::Record;
 use stage::{Stage, StageKind};
-
-#[derive(Clone, Copy)]
-pub enum StageAnswer {
-    Stage(StageKind),
-    Refused(Error),
-}
-
-impl StageAnswer {
-    // What the questions came to.
-    pub fn verdict(self) -> Result<(), Error>
-        ensures { result ≡ stage_answer_verdict self }
-    {
-        match self {
-            StageAnswer::Stage(_) => Ok(()),
-            StageAnswer::Refused(e) => Err(e),
-        }
-    }
-}
 
 // Are gain and rates within their limits?
 fn settings_allowed(found: Record) -> bool
@@ -38,11 +20,9 @@ fn settings_allowed(found: Record) -> bool
 {
     match found {
         Record::Gain { q15 } => Gain { q15 }.allowed(),
-        Record::MonoToStereo => true,
-        Record::StereoToMono => true,
         Record::Resample { in_rate, out_rate } => rates::rates_allowed(in_rate, out_rate),
-        Record::DcBlock { corner: _ } => true,
-        Record::Biquad { rate, bits: _ } => pcm::rate_allowed(rate),
+        Record::Biquad { rate, .. } => pcm::rate_allowed(rate),
+        _ => true,
     }
 }
 
@@ -51,64 +31,57 @@ fn suits(format: PcmFormat, found: Record) -> bool
     ensures { result ≡ record_suits format found }
 {
     match found {
-        Record::Gain { q15: _ } => true,
         Record::MonoToStereo => format.channels == 1,
         Record::StereoToMono => format.channels == 2,
-        Record::Resample {
-            in_rate,
-            out_rate: _,
-        } => format.rate == in_rate,
-        Record::DcBlock { corner: _ } => true,
-        Record::Biquad { rate, bits: _ } => format.rate == rate,
+        Record::Resample { in_rate, .. } => format.rate == in_rate,
+        Record::Biquad { rate, .. } => format.rate == rate,
+        _ => true,
     }
 }
 
+#[tactic(auto, using(rates::specs::laws::Rates::opened_made))]
 // A resampler of rates that are within the limit.
-fn resampler(in_rate: u32, out_rate: u32) -> StageAnswer
+fn resampler(in_rate: u32, out_rate: u32) -> Result<StageKind, Error>
     requires { rates_allowed in_rate out_rate ≡ true }
-    ensures { result ≡ StageAnswer.Stage (StageKind.Resample (reduced in_rate out_rate)) }
+    ensures { result ≡ Ok (StageKind.Resample (reduced in_rate out_rate)) }
 {
-    let made = LinearResampler::new(in_rate, out_rate);
-    let NewResampler::Made(r) = made else {
-        return StageAnswer::Refused(Error::InvalidFormat);
-    };
-    StageAnswer::Stage(StageKind::Resample(r))
+    let r = LinearResampler::new(in_rate, out_rate)?;
+    Ok(StageKind::Resample(r))
 }
 
 // The stage of a record whose settings are within their limits.
-fn stage_kind(format: PcmFormat, found: Record) -> StageAnswer
+fn stage_kind(format: PcmFormat, found: Record) -> Result<StageKind, Error>
     requires { (settings_allowed found ≡ true) × (rate_allowed format.rate ≡ true) }
-    ensures { result ≡ StageAnswer.Stage (stage_kind_of format found) }
+    ensures { result ≡ Ok (stage_kind_of format found) }
 {
     match found {
-        Record::Gain { q15 } => StageAnswer::Stage(StageKind::Gain(Gain { q15 })),
-        Record::MonoToStereo => StageAnswer::Stage(StageKind::MonoToStereo),
-        Record::StereoToMono => StageAnswer::Stage(StageKind::StereoToMono),
+        Record::Gain { q15 } => Ok(StageKind::Gain(Gain { q15 })),
+        Record::MonoToStereo => Ok(StageKind::MonoToStereo),
+        Record::StereoToMono => Ok(StageKind::StereoToMono),
         Record::Resample { in_rate, out_rate } => resampler(in_rate, out_rate),
         Record::DcBlock { corner } => {
-            StageAnswer::Stage(StageKind::DcBlock(DcBlock::from_bits(corner).tuned(format.rate)))
+            Ok(StageKind::DcBlock(DcBlock::from_bits(corner).tuned(format.rate)))
         }
-        Record::Biquad { rate, bits } => {
-            StageAnswer::Stage(StageKind::Biquad(Biquad::from_bits(rate, bits)))
-        }
+        Record::Biquad { rate, bits } => { Ok(StageKind::Biquad(Biquad::from_bits(rate, bits))) }
     }
 }
 
+#[tactic(auto, unfolding(crate::specs::Opening::stage_verdict))]
 // The stage that a record opens, where `before` stages stand before it and `format` reaches it.
-pub fn stage_of(format: PcmFormat, before: usize, found: Record) -> StageAnswer
+pub fn stage_of(format: PcmFormat, before: usize, found: Record) -> Result<StageKind, Error>
     requires { rate_allowed format.rate ≡ true }
     ensures { result ≡ stage_answer (8 - before) format found }
 {
     let within = settings_allowed(found);
     let suited = suits(format, found);
     if before >= 8 {
-        return StageAnswer::Refused(Error::TooManyStages);
+        return Err(Error::TooManyStages);
     }
     if !within {
-        return StageAnswer::Refused(Error::SettingOutOfRange);
+        return Err(Error::SettingOutOfRange);
     }
     if !suited {
-        return StageAnswer::Refused(Error::Unsupported);
+        return Err(Error::Unsupported);
     }
     stage_kind(format, found)
 }

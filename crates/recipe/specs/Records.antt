@@ -120,11 +120,6 @@ answered (Err e) found = Err e
 unfoldable pub read_record : List ℕ → Result Entry Error
 read_record left = answered (record_verdict left) (entry_at left)
 
--- what its questions come to
-abbrev pub record_answer_verdict : (Result Entry Error) → Verdict
-record_answer_verdict (Ok found) = Ok tt
-record_answer_verdict (Err e) = Err e
-
 -- ---- all records
 -- the bytes that are left at the first byte of each record, where so many are passed over before the next one. A record is its two-byte length and as many bytes as that says
 unfoldable pub records_after : ℕ → List ℕ → List (List ℕ)

@@ -5,7 +5,7 @@ ghost use Rattle.std.specs.Prelude.{◌≡◌, true, ◌+◌, ◌*◌, ◌≤◌
 ghost use Rattle.pcm.specs.Frames.{written};
 ghost use Rattle.words.specs.Words.{words, words_bytes};
 ghost use Rattle.std.proofs.lemmas.List.Edits.{sets};
-ghost use Rattle.recipe.specs.Records.{of_stage, of_note, known, field_count, length_verdict, record_verdict, record_of, entry_at, read_record, record_answer_verdict, record_bytes, kind_number, fields_of};
+ghost use Rattle.recipe.specs.Records.{of_stage, of_note, known, field_count, length_verdict, record_verdict, record_of, entry_at, read_record, record_bytes, kind_number, fields_of};
 
 use biquad::CoefficientBits;
 use pcm::{Error};
@@ -28,32 +28,12 @@ pub enum Entry {
     Note(usize),
 }
 
-#[derive(Clone, Copy)]
-pub enum RecordAnswer {
-    Entry(Entry),
-    Refused(Error),
-}
-
-impl RecordAnswer {
-    // What the questions came to.
-    pub fn verdict(self) -> Result<(), Error>
-        ensures { result ≡ record_answer_verdict self }
-    {
-        match self {
-            RecordAnswer::Entry(_) => Ok(()),
-            RecordAnswer::Refused(e) => Err(e),
-        }
-    }
-}
-
 // Is there a stage of this kind?
+#[tactic(auto, unfolding(crate::specs::Records::of_stage))]
 fn of_stage(kind: u16) -> bool
     ensures { result ≡ of_stage kind }
 {
-    if kind == 0 {
-        return false;
-    }
-    kind <= 6
+    (1..=6).contains(&kind)
 }
 
 // Is a record of this kind a note?
@@ -67,10 +47,7 @@ pub fn of_note(kind: u16) -> bool
 fn known(kind: u16) -> bool
     ensures { result ≡ known kind }
 {
-    if of_stage(kind) {
-        return true;
-    }
-    of_note(kind)
+    of_stage(kind) || of_note(kind)
 }
 
 // How many fields of 32 bits a stage's kind has.
@@ -88,6 +65,7 @@ fn field_count(kind: u16) -> usize
     }
 }
 
+#[tactic(auto, using(crate::specs::laws::Records::no_note_stage))]
 // Is the length one that the kind has? It counts the two bytes of the kind.
 fn length_question(kind: u16, length: usize) -> Result<(), Error>
     requires { known kind ≡ true }
@@ -106,6 +84,7 @@ fn length_question(kind: u16, length: usize) -> Result<(), Error>
 }
 
 // The questions of a record's bytes.
+#[tactic(auto, unfolding(crate::specs::Records::record_verdict))]
 fn record_question(left: &[u8]) -> Result<(), Error>
     ensures { result ≡ record_verdict left.now }
 {
@@ -121,10 +100,7 @@ fn record_question(left: &[u8]) -> Result<(), Error>
     if !known(kind) {
         return Err(Error::UnknownStage);
     }
-    let sized = length_question(kind, length);
-    if let Err(e) = sized {
-        return Err(e);
-    }
+    length_question(kind, length)?;
     if !whole {
         return Err(Error::ShortRecord);
     }
@@ -185,14 +161,12 @@ fn entry_of(left: &[u8]) -> Entry
 
 impl Record {
     // The record at the front of the bytes that are left.
-    pub fn read(left: &[u8]) -> RecordAnswer
+    #[tactic(auto, unfolding(crate::specs::Records::read_record))]
+    pub fn read(left: &[u8]) -> Result<Entry, Error>
         ensures { result ≡ read_record left.now }
     {
-        let v = record_question(left);
-        match v {
-            Ok(()) => RecordAnswer::Entry(entry_of(left)),
-            Err(e) => RecordAnswer::Refused(e),
-        }
+        record_question(left)?;
+        Ok(entry_of(left))
     }
 
     fn kind(self) -> u16
