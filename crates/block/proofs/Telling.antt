@@ -34,7 +34,7 @@ module _ (c : Pipeline) (format : PcmFormat) (t : ℕ) (block a b : List ℕ) wh
 
   told_by : (v : Verdict) → answer_told (concluded v c t block (halves a b)).answer ≡ told_of_block v leaving t (last_half c.count) len held
   unfolding accepted
-  told_by (Ok tt) = nothing_or_sound (eqb len 0)
+  told_by (Ok _) = nothing_or_sound (eqb len 0)
   told_by (Err e) = refl
 
   pub with_told : (r : Result) → r ≡ block_call c format t block a b → (r ≡ block_call c format t block a b) × (answer_told r.answer ≡ block_told c format t block a b)
@@ -42,7 +42,7 @@ module _ (c : Pipeline) (format : PcmFormat) (t : ℕ) (block a b : List ℕ) wh
   with_told r e = (e, ap (λ (x : Result). answer_told x.answer) e ∙ told_by (block_verdict c format (length block) (shorter a b)))
 
 valued_by : (v : Verdict) (n : ℕ) → scratch_told (scratch_answer v n) ≡ valued v n
-valued_by (Ok tt) n = refl
+valued_by (Ok _) n = refl
 valued_by (Err e) n = refl
 
 pub with_value : (c : Pipeline) (size : ℕ) (r : (Result ℕ Error)) → r ≡ scratch_bytes c size → (r ≡ scratch_bytes c size) × (scratch_told r ≡ valued (size_asked c size (Ok tt)) (scratch_figure c size))

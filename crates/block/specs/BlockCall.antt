@@ -110,7 +110,7 @@ shorter a b = shorter_of (length a) (length b)
 
 -- a refusal alters nothing
 abbrev pub concluded : Verdict → Pipeline → ℕ → List ℕ → Halves → Result
-concluded (Ok tt) c timestamp bytes h = accepted c timestamp bytes h
+concluded (Ok _) c timestamp bytes h = accepted c timestamp bytes h
 concluded (Err e) c timestamp bytes h = record { chain = c; answer = answer.Refused e; a = h.a; b = h.b }
 
 -- the block call: from the chain, the block and the two halves to all that is there afterwards
@@ -124,7 +124,7 @@ largest_room f [] n = 0
 largest_room f (s ∷ rest) n = larger (room_wanted f s.kind n) (largest_room (format_after f s.kind) rest (frames_wanted s.kind n))
 
 abbrev pub scratch_answer : Verdict → ℕ → Result ℕ Error
-scratch_answer (Ok tt) figure = Ok figure
+scratch_answer (Ok _) figure = Ok figure
 scratch_answer (Err e) figure = Err e
 
 -- twice the largest room on the way, the block itself included

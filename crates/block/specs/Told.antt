@@ -12,7 +12,7 @@ use Rattle.answers.specs.Answers.{last_half, sound_told, silent_told}
 
 -- by the verdict, where `len` bytes of this format come out and so many samples are held back
 abbrev pub told_of_block : Verdict → PcmFormat → ℕ → Half → ℕ → ℕ → Told
-told_of_block (Ok tt) f timestamp side len clipped = cond (eqb len 0) (silent_told 0 0 2 clipped) (sound_told f timestamp side len clipped)
+told_of_block (Ok _) f timestamp side len clipped = cond (eqb len 0) (silent_told 0 0 2 clipped) (sound_told f timestamp side len clipped)
 told_of_block (Err e) f timestamp side len clipped = silent_told (refusal e).number (refusal e).needed 0 0
 
 abbrev pub block_told : Pipeline → PcmFormat → ℕ → List ℕ → List ℕ → List ℕ → Told

@@ -52,7 +52,7 @@ mix_verdict a b out = ask (eqb (length a) (length b) && eqb (length a % 2) 0) In
 
 -- the answer where the questions come to a verdict: an accepted mix tells how many sums were held back
 abbrev pub answer_of_mixing : Verdict → ℕ → Result ℕ Error
-answer_of_mixing (Ok tt) clipped = Ok clipped
+answer_of_mixing (Ok _) clipped = Ok clipped
 answer_of_mixing (Err e) clipped = Err e
 
 unfoldable pub mix_answer : List ℕ → List ℕ → List ℕ → Result ℕ Error
@@ -74,5 +74,5 @@ mix_told (Ok clipped) = record { number = 0; needed = 0; clipped = clipped }
 mix_told (Err e) = record { number = (refusal e).number; needed = (refusal e).needed; clipped = 0 }
 
 abbrev pub told_of_mixing : Verdict → ℕ → MixTold
-told_of_mixing (Ok tt) clipped = record { number = 0; needed = 0; clipped = clipped }
+told_of_mixing (Ok _) clipped = record { number = 0; needed = 0; clipped = clipped }
 told_of_mixing (Err e) clipped = record { number = (refusal e).number; needed = (refusal e).needed; clipped = 0 }

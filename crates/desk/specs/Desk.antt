@@ -6,7 +6,6 @@ use lib.ListN.{length}
 use Rattle.pcm.specs.declared.PcmFormat.{PcmFormat}
 use Rattle.pcm.specs.declared.Error.TheVariants.{TooLong}
 use Rattle.pcm.specs.Refusals.{ask, Verdict}
-use Rattle.pipeline.specs.declared.Opened.{Opened}
 use Rattle.pipeline.specs.Opening.{open_call}
 
 -- a recipe of up to 1,048,576 bytes? else 10, first. Then opening's questions

@@ -29,7 +29,7 @@ module _ (c : Pipeline) (a b : List ℕ) where
 
   told_by : (v : Verdict) → finish_told (finish_concluded v c (halves a b)).answer ≡ told_of_finish v leaving (last_half c.count) (finish_bytes c) (finish_clipped c)
   unfolding finished
-  told_by (Ok tt) = nothing_or_sound (eqb (finish_bytes c) 0)
+  told_by (Ok _) = nothing_or_sound (eqb (finish_bytes c) 0)
   told_by (Err e) = refl
 
   pub with_told : (r : FinishResult) → r ≡ finish_call c a b → (r ≡ finish_call c a b) × (finish_told r.answer ≡ finish_call_told c a b)

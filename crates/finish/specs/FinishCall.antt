@@ -76,7 +76,7 @@ finished c h = record {
 
 -- a refusal alters nothing
 abbrev pub finish_concluded : Verdict → Pipeline → Halves → FinishResult
-finish_concluded (Ok tt) c h = finished c h
+finish_concluded (Ok _) c h = finished c h
 finish_concluded (Err e) c h = record { chain = c; answer = answer.Refused e; a = h.a; b = h.b }
 
 -- the finish call: from the chain and the two halves to all that is there afterwards

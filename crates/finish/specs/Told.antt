@@ -14,7 +14,7 @@ use Rattle.finish.specs.FinishCall.{finish_verdict, finish_bytes, finish_clipped
 
 -- by the verdict, where `len` bytes of this format come out and so many samples are held back
 abbrev pub told_of_finish : Verdict → PcmFormat → Half → ℕ → ℕ → FinishTold
-told_of_finish (Ok tt) f side len clipped = cond (eqb len 0) (silent_finish_told 0 0 2 clipped) (sound_finish_told f side len clipped)
+told_of_finish (Ok _) f side len clipped = cond (eqb len 0) (silent_finish_told 0 0 2 clipped) (sound_finish_told f side len clipped)
 told_of_finish (Err e) f side len clipped = silent_finish_told (refusal e).number (refusal e).needed 0 0
 
 abbrev pub finish_call_told : Pipeline → List ℕ → List ℕ → FinishTold

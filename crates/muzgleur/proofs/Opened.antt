@@ -19,7 +19,6 @@ use Rattle.recipe.specs.declared.Record.TheVariants as rec
 use Rattle.recipe.specs.Records.{of_note, kind_at, record_at, record_verdict, records}
 use Rattle.stage.specs.declared.Stage.{Stage}
 use Rattle.stage.specs.Stages.{stage_as_opened, format_after}
-use Rattle.pipeline.specs.declared.Opened.{Opened}
 use Rattle.opening.specs.Opening.{settings_allowed, stage_verdict, stage_kind_of}
 use Rattle.pipeline.specs.Opening.{Stages, opened, refused, asked, front, next_kind, open_records, open_stages, unused_stage, chain_of, opened_of, open_call}
 use Rattle.pipeline.proofs.laws.Opening.{stage_fits}
@@ -40,7 +39,7 @@ small_kind f (rec.Biquad rate bits) h = refl
 
 -- ---- the stages of a recipe
 asked_opened : (v : Verdict) (x : Stages) (ss : List Stage) → asked v x ≡ opened ss → (v ≡ Ok tt) × (x ≡ opened ss)
-asked_opened (Ok tt) x ss e = (refl, e)
+asked_opened (Ok _) x ss e = (refl, e)
 asked_opened (Err r) x ss e = (cc, cc)
 
 no_more : (ss : List Stage) → opened [] ≡ opened ss → All Small ss

@@ -5,7 +5,6 @@ use Rattle.pcm.specs.declared.PcmFormat.{PcmFormat}
 use Rattle.pcm.specs.Frames.{written}
 use Rattle.pcm.specs.Refusals.{refusal, Verdict}
 use Rattle.pipeline.specs.declared.Pipeline.{Pipeline}
-use Rattle.pipeline.specs.declared.Opened.{Opened}
 use Rattle.answers.specs.declared.Told.{Told}
 use Rattle.block.specs.BlockCall.{Result}
 use Rattle.answers.specs.Answers.{answer_told, scratch_told}
@@ -17,7 +16,7 @@ use Rattle.muzgleur.specs.declared.ScratchResult.{ScratchResult}
 
 -- ---- opening: the chain to the front of the words; a refusal alters none
 abbrev pub opened_words : List ℕ → Verdict → Pipeline → Outcome
-opened_words w (Ok tt) c = record { number = 0; words = written (words_of c) w }
+opened_words w (Ok _) c = record { number = 0; words = written (words_of c) w }
 opened_words w (Err e) c = record { number = (refusal e).number; words = w }
 
 -- too few words are 1

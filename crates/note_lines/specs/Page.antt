@@ -19,7 +19,7 @@ number_line n = cond (ltb n 10) (digit n ∷ 0x0a ∷ []) (digit (n / 10) ∷ di
 
 -- the lines, or the refusal number alone
 abbrev pub printed : Verdict → List ℕ → List ℕ
-printed (Ok tt) recipe = lines_of recipe
+printed (Ok _) recipe = lines_of recipe
 printed (Err e) recipe = number_line (refusal e).number
 
 -- the page of a recipe, with rate and channels as they were typed

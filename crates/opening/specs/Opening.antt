@@ -52,7 +52,7 @@ stage_kind_of f (rec.DcBlock corner) = kind.DcBlock (record { corner = corner; r
 stage_kind_of f (rec.Biquad rate bits) = kind.Biquad (record { rate = rate; coefficients = floats bits; bits = bits })
 
 abbrev pub stage_answer_of : Verdict → StageKind → Result StageKind Error
-stage_answer_of (Ok tt) k = Ok k
+stage_answer_of (Ok _) k = Ok k
 stage_answer_of (Err e) k = Err e
 
 abbrev pub stage_answer : ℕ → PcmFormat → Record → Result StageKind Error

@@ -32,17 +32,17 @@ ask false e more = Err e
 
 -- further questions, where those before were answered yes
 abbrev pub and_then : Verdict → Verdict → Verdict
-and_then (Ok tt) more = more
+and_then (Ok _) more = more
 and_then (Err e) more = Err e
 
 -- 0, or the refusal's number
 abbrev pub number_of : Verdict → ℕ
-number_of (Ok tt) = 0
+number_of (Ok _) = 0
 number_of (Err e) = (refusal e).number
 
 -- a value that only an accepted call gives, and what stands for it where the call is refused
 abbrev pub if_accepted : {A : Type 0} → Verdict → A → A → A
-if_accepted (Ok tt) value none = value
+if_accepted (Ok _) value none = value
 if_accepted (Err e) value none = none
 
 -- what a call that gives a number tells: 0 and its value, or the refusal's number and 0

@@ -38,7 +38,7 @@ module _ (left : List ℕ) where
   read_entry {found} h = go (record_verdict left) h
     where
       go : (v : Verdict) → answered v (entry_at left) ≡ Ok found → (v ≡ Ok tt) × (entry_at left ≡ found)
-      go (Ok tt) q = (refl, cc)
+      go (Ok _) q = (refl, cc)
       go (Err x) q = zero_not_one (cc)
 
   pub read_stage : {r : Record} → read_record left ≡ Ok (entry.Stage r) → StageRead left r
@@ -62,7 +62,7 @@ module _ (left : List ℕ) where
   read_refused {x} h = go (record_verdict left) h
     where
       go : (v : Verdict) → answered v (entry_at left) ≡ Err x → v ≡ Err x
-      go (Ok tt) e = zero_not_one (cc)
+      go (Ok _) e = zero_not_one (cc)
       go (Err y) e = cc
 
 -- the rate that leaves a stage is within its limit

@@ -167,16 +167,16 @@ module _ {f : PcmFormat} {bytes : List ℕ} {stages : List Stage} {reaching : Pc
 
 -- ---- the call's answer
 module _ (f : PcmFormat) (bytes : List ℕ) where
-  pub call_format : format_allowed f ≡ false → open_call f bytes ≡ record { verdict = Err InvalidFormat; chain = chain_of f [] }
+  pub call_format : format_allowed f ≡ false → open_call f bytes ≡ Err InvalidFormat
   unfolding open_call
   call_format h = rw h
 
   module _ (h : format_allowed f ≡ true) where
-    pub call_refused : {x : Error} → open_stages 8 f bytes ≡ refused x → open_call f bytes ≡ record { verdict = Err x; chain = chain_of f [] }
+    pub call_refused : {x : Error} → open_stages 8 f bytes ≡ refused x → open_call f bytes ≡ Err x
     unfolding open_call
     call_refused e = rw (h, e)
 
-    pub call_opened : {ss : List Stage} → open_stages 8 f bytes ≡ opened ss → open_call f bytes ≡ record { verdict = Ok tt; chain = chain_of f ss }
+    pub call_opened : {ss : List Stage} → open_stages 8 f bytes ≡ opened ss → open_call f bytes ≡ Ok (chain_of f ss)
     unfolding open_call
     call_opened e = rw (h, e)
 

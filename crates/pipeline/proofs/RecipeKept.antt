@@ -13,7 +13,7 @@ use Rattle.pipeline.specs.Opening.{open_stages, open_call}
 use Rattle.writing.specs.WritingBack.{recipe_of}
 use Rattle.pipeline.proofs.laws.RoundTrip.{opened_recipe, opened_stages, opened_from}
 
-module _ (f : PcmFormat) (bytes : List ℕ) (c : Pipeline) (e : open_call f bytes ≡ record { verdict = Ok tt; chain = c }) where
+module _ (f : PcmFormat) (bytes : List ℕ) (c : Pipeline) (e : open_call f bytes ≡ Ok c) where
   stages_are : stages_of c ≡ (opened_from f bytes c e).stages
   stages_are = let o = opened_from f bytes c e in ap stages_of o.chain_is ∙ opened_stages f o.stages
 

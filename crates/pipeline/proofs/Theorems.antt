@@ -32,7 +32,7 @@ unfolding open_call open_stages without_notes
 notes_passed_over f bytes b w =
     ap (λ (x : Stages). opened_of f (asked (ask (format_allowed f) InvalidFormat (Ok tt)) x)) (sym (open_without_notes (records bytes) (records_bytes 0 bytes b) w 8 f))
 
-module _ (f : PcmFormat) (bytes : List ℕ) (c : Pipeline) (e : open_call f bytes ≡ record { verdict = Ok tt; chain = c }) where
+module _ (f : PcmFormat) (bytes : List ℕ) (c : Pipeline) (e : open_call f bytes ≡ Ok c) where
   -- a chain has at most eight stages
   pub opened_count : c.count ≤ 8
   opened_count = let o = opened_from f bytes c e in rw (o.chain_is, count_is f o.stages) (opened_few 8 f bytes o.stages o.opens)
@@ -57,7 +57,7 @@ module _ (f : PcmFormat) (bytes : List ℕ) (c : Pipeline) (e : open_call f byte
 
     -- what a chain writes opens as the same chain as opened, whatever sound the stages have taken since
     pub written_opens : (d : Pipeline) → d.format ≡ c.format → kinds_of (stages_of d) ≡ kinds_of (stages_of c)
-        → open_call d.format (recipe_of (stages_of d)) ≡ record { verdict = Ok tt; chain = c }
+        → open_call d.format (recipe_of (stages_of d)) ≡ Ok c
     written_opens d g k =
         ap₂ open_call (g ∙ opened_format) (recipe_of_kinds (stages_of d) (stages_of c) k ∙ recipe_kept f bytes c e b) ∙ sym (notes_passed_over f bytes b opened_whole) ∙ e
 
@@ -67,6 +67,6 @@ module _ (f : PcmFormat) (bytes : List ℕ) (c : Pipeline) (e : open_call f byte
     none_is_empty z = sym (recipe_kept f bytes c e b) ∙ ap (λ (n : ℕ). recipe_of (take n c.stages)) z
 
 -- the empty recipe is a chain of no stages
-pub empty_is_none : (f : PcmFormat) → format_allowed f ≡ true → open_call f [] ≡ record { verdict = Ok tt; chain = chain_of f [] }
+pub empty_is_none : (f : PcmFormat) → format_allowed f ≡ true → open_call f [] ≡ Ok (chain_of f [])
 unfolding open_call
 empty_is_none f h = rw (h, open_none 8 f)

@@ -1,5 +1,5 @@
 -- Opening a chain: the questions in their order, from a format and bytes to a chain or a refusal (document 01, 'The recipe' and 'The questions'; document 02, Q-4). Definitions only.
-use Rattle.std.specs.Prelude.{cond, List, [], ◌∷◌, ◌++◌, ℕ, ◌-◌, length, replicate, Ok, Err}
+use Rattle.std.specs.Prelude.{cond, List, [], ◌∷◌, ◌++◌, ℕ, ◌-◌, length, replicate, Result, Ok, Err}
 use Rattle.pcm.specs.declared.PcmFormat.{PcmFormat}
 use Rattle.pcm.specs.declared.Error.{Error}
 use Rattle.pcm.specs.declared.Error.TheVariants.{InvalidFormat}
@@ -11,7 +11,6 @@ use Rattle.stage.specs.declared.Stage.{Stage}
 use Rattle.stage.specs.Stages.{stage_as_opened, format_after}
 use Rattle.recipe.specs.Records.{of_note, kind_at, record_at, record_verdict, records}
 use Rattle.pipeline.specs.declared.Pipeline.{Pipeline}
-use Rattle.pipeline.specs.declared.Opened.{Opened}
 use Rattle.opening.specs.Opening.{stage_verdict, stage_kind_of}
 
 -- ---- all records
@@ -21,7 +20,7 @@ pub data Stages : Type 0 where
 
 -- a question answered no ends the opening with its refusal
 abbrev pub asked : Verdict → Stages → Stages
-asked (Ok tt) more = more
+asked (Ok _) more = more
 asked (Err e) more = refused e
 
 abbrev pub front : Stage → Stages → Stages
@@ -54,10 +53,10 @@ unused_stage = stage_as_opened kind.MonoToStereo
 unfoldable pub chain_of : PcmFormat → List Stage → Pipeline
 chain_of f ss = record { stages = ss ++ replicate (8 - length ss) unused_stage; count = length ss; format = f; blocks = 0; empty_blocks = 0 }
 
-abbrev pub opened_of : PcmFormat → Stages → Opened
-opened_of f (opened ss) = record { verdict = Ok tt; chain = chain_of f ss }
-opened_of f (refused e) = record { verdict = Err e; chain = chain_of f [] }
+abbrev pub opened_of : PcmFormat → Stages → Result Pipeline Error
+opened_of f (opened ss) = Ok (chain_of f ss)
+opened_of f (refused e) = Err e
 
 -- is the rate 1 to 384,000 and the channel count 1 or 2? else 1. Then the records, at most eight of them stages
-unfoldable pub open_call : PcmFormat → List ℕ → Opened
+unfoldable pub open_call : PcmFormat → List ℕ → Result Pipeline Error
 open_call f bytes = opened_of f (asked (ask (format_allowed f) InvalidFormat (Ok tt)) (open_stages 8 f bytes))

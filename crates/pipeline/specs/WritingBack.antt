@@ -26,7 +26,7 @@ write_verdict c room =
 
 -- bytes past those written stay, and a refusal alters nothing
 abbrev pub write_outcome : Verdict → List ℕ → List ℕ → WriteOutcome
-write_outcome (Ok tt) bytes out = record { answer = Ok (length bytes); out = written bytes out }
+write_outcome (Ok _) bytes out = record { answer = Ok (length bytes); out = written bytes out }
 write_outcome (Err e) bytes out = record { answer = Err e; out = out }
 
 unfoldable pub write_call : Pipeline → List ℕ → WriteOutcome
@@ -38,5 +38,5 @@ write_told (Ok n) = record { number = 0; needed = 0; len = n }
 write_told (Err e) = record { number = (refusal e).number; needed = (refusal e).needed; len = 0 }
 
 abbrev pub told_of_writing : Verdict → ℕ → WriteTold
-told_of_writing (Ok tt) n = record { number = 0; needed = 0; len = n }
+told_of_writing (Ok _) n = record { number = 0; needed = 0; len = n }
 told_of_writing (Err e) n = record { number = (refusal e).number; needed = (refusal e).needed; len = 0 }

@@ -7,9 +7,8 @@ ghost use Rattle.writing.specs.WritingBack.{recipe_of};
 ghost use Rattle.pipeline.specs.WritingBack.{stages_of, write_verdict, write_call, write_told, told_of_writing};
 ghost use Rattle.pipeline.specs.Reset.{output_format, reset_call};
 
-use opening::StageAnswer;
 use pcm::{Error, PcmFormat};
-use recipe::{Entry, Record, RecordAnswer};
+use recipe::{Entry, Record};
 use stage::{Stage, StageKind};
 
 // The stages in use are the first `count`; `format` is what reaches the first.
@@ -22,21 +21,7 @@ pub struct Pipeline {
     pub empty_blocks: u64,
 }
 
-// What opening came to, and the chain; a chain of no stages where it was refused.
-#[derive(Clone, Copy)]
-pub struct Opened {
-    pub verdict: Result<(), Error>,
-    pub chain: Pipeline,
-}
-
-// How many bytes a recipe took.
-#[derive(Clone, Copy)]
-pub enum WriteAnswer {
-    Written(usize),
-    Refused(Error),
-}
-
-// Document 01's number, needed and length of a WriteAnswer.
+// Document 01's number, needed and length of a recipe that is written back.
 #[repr(C)]
 #[derive(Clone, Copy)]
 pub struct WriteTold {
@@ -45,18 +30,18 @@ pub struct WriteTold {
     pub len: usize,
 }
 
-impl WriteAnswer {
+impl From<Result<usize, Error>> for WriteTold {
+    ghost from_gives = { λ answer told. told ≡ write_told answer };
+
     // Number and values of each case.
-    pub fn told(self) -> WriteTold
-        ensures { result ≡ write_told self }
-    {
-        match self {
-            WriteAnswer::Written(len) => WriteTold {
+    fn from(answer: Result<usize, Error>) -> WriteTold {
+        match answer {
+            Ok(len) => WriteTold {
                 number: 0,
                 needed: 0,
                 len,
             },
-            WriteAnswer::Refused(e) => WriteTold {
+            Err(e) => WriteTold {
                 number: e.number(),
                 needed: e.needed(),
                 len: 0,
@@ -73,85 +58,56 @@ fn no_stages() -> [Stage; 8]
     [unused; 8]
 }
 
-// The answer of an opening that was refused.
-fn unopened(format: PcmFormat, verdict: Result<(), Error>) -> Opened
-    ensures { result ≡ record { verdict = verdict; chain = chain_of format [] } }
-{
-    let stages = no_stages();
-    let chain = Pipeline {
-        stages,
-        count: 0,
-        format,
-        blocks: 0,
-        empty_blocks: 0,
-    };
-    Opened { verdict, chain }
-}
-
 impl Pipeline {
     // The chain of a recipe, for sound of this format.
-    pub fn open(format: PcmFormat, recipe: &[u8]) -> Opened
+    pub fn open(format: PcmFormat, recipe: &[u8]) -> Result<Pipeline, Error>
         ensures { result ≡ open_call format recipe.now }
     {
         if !format.allowed() {
-            return unopened(format, Err(Error::InvalidFormat));
+            return Err(Error::InvalidFormat);
         }
         let mut stages = no_stages();
         let mut reaching = format;
         let mut count: usize = 0;
         let mut at: usize = 0;
         while at < recipe.len() {
-            let answer = Record::read(&recipe[at..]);
-            let RecordAnswer::Entry(entry) = answer else {
-                return unopened(format, answer.verdict());
-            };
-            match entry {
+            match Record::read(&recipe[at..])? {
                 Entry::Note(length) => {
                     at += 4 + length;
                 }
                 Entry::Stage(record) => {
-                    let made = opening::stage_of(reaching, count, record);
-                    let StageAnswer::Stage(kind) = made else {
-                        return unopened(format, made.verdict());
-                    };
-                    let next = Stage::new(kind);
-                    stages[count] = next;
+                    let kind = opening::stage_of(reaching, count, record)?;
+                    stages[count] = Stage::new(kind);
                     count += 1;
                     reaching = stage::format_after(reaching, kind);
                     at += record.size();
                 }
             }
         }
-        let chain = Pipeline {
+        Ok(Pipeline {
             stages,
             count,
             format,
             blocks: 0,
             empty_blocks: 0,
-        };
-        Opened {
-            verdict: Ok(()),
-            chain,
-        }
+        })
     }
 
     // The bytes that the chain was opened from, without their notes, at the front of out.
-    pub fn write_recipe(self, out: &mut [u8]) -> WriteAnswer
+    #[tactic(auto, unfolding(crate::specs::WritingBack::write_call, crate::specs::WritingBack::write_verdict), using(pcm::specs::laws::Refusals::room_enough))]
+    pub fn write_recipe(self, out: &mut [u8]) -> Result<usize, Error>
         ensures all { record { answer = result; out = out.new } ≡ write_call self out.old }
         ensures told { write_told result ≡ told_of_writing (write_verdict self (length out.old)) (length (recipe_of (stages_of self))) }
     {
         let count = self.count;
         if count > 8 {
-            return WriteAnswer::Refused(Error::InvalidFormat);
+            return Err(Error::InvalidFormat);
         }
         let stages = self.stages;
         let needed = writing::recipe_size(stages, count);
-        let room = pcm::require_room(out, needed);
-        if let Err(e) = room {
-            return WriteAnswer::Refused(e);
-        }
+        pcm::require_room(out, needed)?;
         writing::write_stages(stages, count, out);
-        WriteAnswer::Written(needed)
+        Ok(needed)
     }
 
     // The format that leaves the last stage.

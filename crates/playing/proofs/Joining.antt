@@ -111,4 +111,4 @@ module _ (output : List ℕ) {got out₀ : List ℕ} {n : ℕ} {out : List ℕ} 
 
   pub joins : (v : Verdict) → After got out₀ output c a b (gathering (length out₀) v output (playing c a b got)) (joined_by v n output out)
   joins (Err e) = ended e refl refl h.placed
-  joins (Ok tt) = rw same_test (appended_after (leb (length got + length output) (length out₀)) refl)
+  joins (Ok _) = rw same_test (appended_after (leb (length got + length output) (length out₀)) refl)

@@ -49,7 +49,7 @@ unless_stopped (stopped e p) more = stopped e p
 -- after a call of this verdict and this output, where `limit` bytes may be gathered: a refusal ends it, and so does output that passes the limit, with 10
 abbrev pub gathering : ℕ → Verdict → List ℕ → Playing → Played
 gathering limit (Err e) output p = stopped e p
-gathering limit (Ok tt) output p =
+gathering limit (Ok _) output p =
     cond (leb (length p.sound + length output) limit)
     (going (record { chain = p.chain; a = p.a; b = p.b; sound = p.sound ++ output }))
     (stopped TooLong p)

@@ -47,7 +47,7 @@ appended n output out =
     (record { gathered = Err TooLong; out = out })
 
 abbrev pub joined_by : Verdict → ℕ → List ℕ → List ℕ → Joined
-joined_by (Ok tt) n output out = appended n output out
+joined_by (Ok _) n output out = appended n output out
 joined_by (Err e) n output out = record { gathered = Err e; out = out }
 
 unfoldable pub joined : Piece → List ℕ → List ℕ → ℕ → List ℕ → Joined

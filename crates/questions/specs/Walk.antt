@@ -35,7 +35,7 @@ size_verdict f size = ask (whole_frames f size) InvalidGeometry (ask (leb (size 
 
 -- the frames of a block; none of one whose size is refused
 abbrev pub frames_if : Verdict → ℕ → ℕ
-frames_if (Ok tt) n = n
+frames_if (Ok _) n = n
 frames_if (Err e) n = 0
 
 unfoldable pub block_frames : PcmFormat → ℕ → ℕ

@@ -76,10 +76,9 @@ fn block_frames(format: PcmFormat, size: usize) -> usize
     requires { 0 < format.channels }
     ensures { result ≡ block_frames format size }
 {
-    let asked = size_question(format, size);
-    match asked {
-        Err(_) => 0,
+    match size_question(format, size) {
         Ok(()) => size / format.frame_bytes(),
+        Err(_) => 0,
     }
 }
 
@@ -200,10 +199,10 @@ pub fn sized(format: PcmFormat, size: usize, walk: Walk) -> Result<(), Error>
     requires { 0 < format.channels }
     ensures { result ≡ sized_from format size walk }
 {
-    if walk.legal {
-        return size_question(format, size);
+    if !walk.legal {
+        return Err(Error::InvalidFormat);
     }
-    Err(Error::InvalidFormat)
+    size_question(format, size)
 }
 
 // The same, then: in the chain's format, and room?
@@ -211,10 +210,7 @@ pub fn verdict(own: PcmFormat, format: PcmFormat, size: usize, walk: Walk) -> Re
     requires { (0 < own.channels) × (walk.short ≤ 3688000000000000000) }
     ensures { result ≡ verdict_from own format size walk }
 {
-    let asked = sized(own, size, walk);
-    if let Err(e) = asked {
-        return Err(e);
-    }
+    sized(own, size, walk)?;
     if !same_format(own, format) {
         return Err(Error::Unsupported);
     }

@@ -13,7 +13,7 @@ pub record RatesTold : Type 0 where
   pub out_r : ℕ
 
 abbrev pub rates_told : Verdict → ℕ → ℕ → RatesTold
-rates_told (Ok tt) i o = record { number = 0; in_r = i; out_r = o }
+rates_told (Ok _) i o = record { number = 0; in_r = i; out_r = o }
 rates_told (Err e) i o = record { number = (refusal e).number; in_r = 0; out_r = 0 }
 
 abbrev pub new_told : (Result LinearResampler Error) → RatesTold

@@ -114,7 +114,7 @@ unfoldable pub entry_at : List ℕ → Entry
 entry_at left = cond (of_note (kind_at left)) (entry.Note (length_at left - 2)) (entry.Stage (record_at left))
 
 abbrev pub answered : Verdict → Entry → Result Entry Error
-answered (Ok tt) found = Ok found
+answered (Ok _) found = Ok found
 answered (Err e) found = Err e
 
 unfoldable pub read_record : List ℕ → Result Entry Error

@@ -9,7 +9,7 @@ use Rattle.room.specs.declared.Room.{Room}
 use Rattle.room.specs.Room.{block_found, finish_found, block_asked, finish_asked, room_answer, block_room, finish_room, room_told, told_of_room, block_room_told, finish_room_told}
 
 told_by : (v : Verdict) (w : Walk) → room_told (room_answer v w) ≡ told_of_room v w
-told_by (Ok tt) w = refl
+told_by (Ok _) w = refl
 told_by (Err e) w = refl
 
 pub block_told_lem : (c : Pipeline) (n : ℕ) (r : Room) → r ≡ block_room c n → (r ≡ block_room c n) × (room_told r ≡ block_room_told c n)

@@ -42,7 +42,7 @@ finish_asked c = ask (legal c) InvalidFormat (Ok tt)
 -- 'the exact number of output frames', those that leave the last stage, 'and the smallest equal halves that are accepted': in bytes of one half
 -- the largest room wanted over the stages that will be reached, for no stages by the block; at a finish a stage wants room for what it delivers
 abbrev pub room_answer : Verdict → Walk → Room
-room_answer (Ok tt) w = room.Known w.frames w.largest
+room_answer (Ok _) w = room.Known w.frames w.largest
 room_answer (Err e) w = room.Refused e
 
 unfoldable pub block_room : Pipeline → ℕ → Room

@@ -18,7 +18,6 @@ use Rattle.stage.specs.Rooms.{rates_suit, stage_suits, frames_out, frames_wanted
 use Rattle.recipe.specs.Records.{record_verdict, record_of, records_after}
 use Rattle.opening.specs.Opening.{stage_verdict}
 use Rattle.pipeline.specs.declared.Pipeline.{Pipeline}
-use Rattle.pipeline.specs.declared.Opened.{Opened}
 use Rattle.pipeline.specs.Opening.{open_records, open_stages, chain_of, open_call}
 use Rattle.pipeline.specs.Reset.{format_leaving}
 use Rattle.answers.specs.declared.Answer.TheVariants.{NothingYet}

@@ -19,7 +19,6 @@ use Rattle.stream.proofs.laws.WholeStream.{whole_stream_of}
 use Rattle.pcm.specs.Frames.{Frame}
 use Rattle.stage.specs.Stages.{kinds_of, stage_clear}
 use Rattle.pipeline.specs.declared.Pipeline.{Pipeline}
-use Rattle.pipeline.specs.declared.Opened.{Opened}
 use Rattle.recipe.specs.Notes.{notes_in, without_notes}
 use Rattle.recipe.specs.Theorems.{no_notes}
 use Rattle.writing.specs.WritingBack.{recipe_of}
@@ -89,7 +88,7 @@ module _ (f : PcmFormat) (recipe : List ℕ) (h : (open_call f recipe).verdict �
   pub still_legal : legal c ≡ true
   still_legal = legal_since o (opened_chain f recipe h) next_call
 
-  as_answered : open_call f recipe ≡ record { verdict = Ok tt; chain = o }
+  as_answered : open_call f recipe ≡ Ok o
   as_answered = ap (λ v. let r : Opened = record { verdict = v; chain = o } in r) h
 
   -- a chain writes itself back to the bytes it was opened from, without their notes; needed is the bytes so written

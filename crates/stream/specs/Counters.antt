@@ -17,7 +17,7 @@ unfoldable pub held_count : ℕ → ℕ
 held_count n = cond (leb n 18446744073709551615) n 18446744073709551615
 
 abbrev pub one_if_accepted : Verdict → ℕ
-one_if_accepted (Ok tt) = 1
+one_if_accepted (Ok _) = 1
 one_if_accepted (Err e) = 0
 
 -- the accepted blocks in a call on the chain o, after the stream X: one or none

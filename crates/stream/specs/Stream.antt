@@ -22,12 +22,12 @@ fed (ended X) = []
 
 -- a refused block adds nothing
 abbrev pub added_by : Verdict → List Frame → List Frame
-added_by (Ok tt) Y = Y
+added_by (Ok _) Y = Y
 added_by (Err e) Y = []
 
 -- an accepted finish ends the stream, a refused one adds nothing
 abbrev pub ended_by : Verdict → List Frame → Stream
-ended_by (Ok tt) X = ended X
+ended_by (Ok _) X = ended X
 ended_by (Err e) X = running X
 
 -- the stream X after a call on the chain o: an accepted block's frames are added; reset empties it

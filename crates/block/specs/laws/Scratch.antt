@@ -29,7 +29,7 @@ largest_by_kinds f (s ∷ l) (t ∷ m) n e =
     (ap (λ (x : StageKind). largest_room (format_after f x) l (frames_wanted x n)) k ∙ largest_by_kinds (format_after f t.kind) l m (frames_wanted t.kind n) (tail_is e))
 
 pub figure_is : (v : Verdict) (own figure : ℕ) → scratch_answer v own ≡ Ok figure → own ≡ figure
-figure_is (Ok tt) own figure e = cc
+figure_is (Ok _) own figure e = cc
 figure_is (Err x) own figure e = cc
 
 pub not_room : (p q r t : Bool) (v : Verdict) → v ≡ Ok tt → number_of (ask p InvalidFormat (ask q InvalidGeometry (ask r TooLong (ask t Unsupported v)))) ≡ 3 → ⊥

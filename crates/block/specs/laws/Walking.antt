@@ -315,7 +315,7 @@ module _ (c : Pipeline) (size : ℕ) (head : head_legal c.format c.count ≡ tru
       ∙ ap (λ (t : Bool). and_then (ask t InvalidFormat (size_verdict c.format size)) next) (legal_is ∙ sym (walked_legal q shorter w (stages_of c) h ∙ ap (λ (f : PcmFormat). suited f (stages_of c)) e))
 
 after_same : (v a b : Verdict) → (v ≡ Ok tt → a ≡ b) → and_then v a ≡ and_then v b
-after_same (Ok tt) a b h = h refl
+after_same (Ok _) a b h = h refl
 after_same (Err e) a b h = refl
 
 -- what a walk begins with, of any number of stages and any halves
@@ -411,11 +411,11 @@ unfolding scratch_bytes
 scratch_refused c size h = rw (head_illegal c h)
 
 same_figure : (v : Verdict) (m n : ℕ) → (v ≡ Ok tt → m ≡ n) → scratch_answer v m ≡ scratch_answer v n
-same_figure (Ok tt) m n h = ap Ok (h refl)
+same_figure (Ok _) m n h = ap Ok (h refl)
 same_figure (Err e) m n h = refl
 
 after_none : (v : Verdict) → and_then v (Ok tt) ≡ v
-after_none (Ok tt) = refl
+after_none (Ok _) = refl
 after_none (Err e) = refl
 
 module _ (c : Pipeline) (size : ℕ) (head : head_legal c.format c.count ≡ true) where

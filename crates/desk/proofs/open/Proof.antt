@@ -4,7 +4,6 @@ use borrow.Author.Rules.{rules}
 use mathlib.Core.Path.{ap}
 use borrow.Author.Tests.{le-leb, lt-leb}
 use Rattle.pcm.specs.declared.Error.TheVariants.{TooLong}
-use Rattle.pipeline.specs.declared.Opened.{Opened}
 use Rattle.desk.specs.Desk.{desk_verdict, desk_open}
 use Rattle.desk.proofs.open.Statement.{statement}
 use Rattle.desk.proofs.open.Tie as tie

@@ -8,7 +8,6 @@ use lib.ListN.{length}
 use Rattle.pcm.specs.declared.PcmFormat.{PcmFormat}
 use Rattle.pcm.specs.Samples.{All}
 use Rattle.pcm.specs.Frames.{written}
-use Rattle.pipeline.specs.declared.Opened.{Opened}
 use Rattle.stage_words.specs.Storable.{HeldStage}
 use Rattle.chain_words.specs.Layout.{words_of, chain_of_words}
 use Rattle.pcm.specs.laws.Refusals.{number_within}

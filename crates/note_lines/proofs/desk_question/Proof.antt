@@ -2,7 +2,6 @@
 use borrow.Author.Rules.{rules}
 use mathlib.Core.Path.{ap}
 use borrow.Author.Tests.{le-leb, lt-leb}
-use Rattle.pipeline.specs.declared.Opened.{Opened}
 use Rattle.note_lines.specs.Page.{desk_verdict}
 use Rattle.note_lines.proofs.desk_question.Statement.{statement}
 use Rattle.note_lines.proofs.desk_question.Tie as tie

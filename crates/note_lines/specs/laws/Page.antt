@@ -6,7 +6,6 @@ use Rattle.pcm.specs.declared.Error.TheVariants.{TooLong}
 use Rattle.pcm.specs.Refusals.{refusal, Verdict}
 use Rattle.pcm.specs.laws.Refusals.{ask_yes}
 use Rattle.recipe.specs.Records.{records, WholeRecords}
-use Rattle.pipeline.specs.declared.Opened.{Opened}
 use Rattle.pipeline.specs.Opening.{open_call}
 use Rattle.pipeline.proofs.Theorems.{opened_whole}
 use Rattle.note_lines.specs.Lines.{digit}
@@ -15,7 +14,7 @@ use Rattle.note_lines.specs.laws.Lines.{lines_fit}
 
 -- where a recipe is accepted its records are whole, and within the limit
 abbrev pub Readable : Verdict → List ℕ → Type 0
-Readable (Ok tt) recipe = WholeRecords (records recipe) × (length recipe ≤ 1048576)
+Readable (Ok _) recipe = WholeRecords (records recipe) × (length recipe ≤ 1048576)
 Readable (Err e) recipe = Unit {0}
 
 accepted_whole : (f : PcmFormat) (recipe : List ℕ) → (open_call f recipe).verdict ≡ Ok tt → WholeRecords (records recipe)
@@ -24,7 +23,7 @@ accepted_whole f recipe h =
 
 pub desk_readable : (f : PcmFormat) (recipe : List ℕ) (v : Verdict) → v ≡ desk_verdict f recipe → Readable v recipe
 unfolding desk_verdict
-desk_readable f recipe (Ok tt) e =
+desk_readable f recipe (Ok _) e =
     let a = ask_yes (leb (length recipe) 1048576) TooLong (open_call f recipe).verdict (cc) in
     (accepted_whole f recipe a.1, leb-true (length recipe) 1048576 a.0)
 desk_readable f recipe (Err x) e = tt
@@ -39,5 +38,5 @@ number_short n = by_size (ltb n 10)
     by_size false = omega arith
 
 pub printed_fits : (v : Verdict) (recipe : List ℕ) (room : ℕ) → Readable v recipe → 2 * length recipe ≤ room → 3 ≤ room → length (printed v recipe) ≤ room
-printed_fits (Ok tt) recipe room r h k = omega (arith, lines_fit recipe r.0)
+printed_fits (Ok _) recipe room r h k = omega (arith, lines_fit recipe r.0)
 printed_fits (Err e) recipe room r h k = omega (arith, number_short (refusal e).number)

@@ -11,7 +11,7 @@ ask_yes true e v h = (refl, h)
 ask_yes false e v h = (cc, cc)
 
 pub then_yes : (v more : Verdict) → and_then v more ≡ Ok tt → (v ≡ Ok tt) × (more ≡ Ok tt)
-then_yes (Ok tt) more h = (refl, h)
+then_yes (Ok _) more h = (refl, h)
 then_yes (Err e) more h = (cc, cc)
 
 pub room_enough : (needed room : ℕ) → room_verdict needed room ≡ Ok tt → needed ≤ room

@@ -22,14 +22,14 @@ module _ (more : ℕ) (f : PcmFormat) (r : Record) where
   stage_accepted {k} h = go (stage_verdict more f r) h
     where
       go : (v : Verdict) → stage_answer_of v (stage_kind_of f r) ≡ Ok k → (v ≡ Ok tt) × (stage_kind_of f r ≡ k)
-      go (Ok tt) e = (refl, cc)
+      go (Ok _) e = (refl, cc)
       go (Err x) e = zero_not_one (cc)
 
   pub stage_refused : {x : Error} → stage_answer more f r ≡ Err x → stage_verdict more f r ≡ Err x
   stage_refused {x} h = go (stage_verdict more f r) h
     where
       go : (v : Verdict) → stage_answer_of v (stage_kind_of f r) ≡ Err x → v ≡ Err x
-      go (Ok tt) e = zero_not_one (cc)
+      go (Ok _) e = zero_not_one (cc)
       go (Err y) e = cc
 
   -- a stage that is taken is among the first eight, within its limits, and suits the format

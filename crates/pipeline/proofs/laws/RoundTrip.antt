@@ -19,7 +19,6 @@ use Rattle.recipe.specs.Theorems.{written_accepted, written_no_note, written_rec
 use Rattle.recipe.specs.laws.Records.{record_four, whole_record, whole_stage, records_next}
 use Rattle.recipe.specs.laws.RoundTrip.{written_read, read_fitting}
 use Rattle.pipeline.specs.declared.Pipeline.{Pipeline}
-use Rattle.pipeline.specs.declared.Opened.{Opened}
 use Rattle.pipeline.specs.Opening.{Stages, opened, refused, asked, front, next_kind, open_records, open_stages, unused_stage, chain_of, open_call}
 use Rattle.opening.specs.Opening.{stage_verdict, stage_kind_of}
 use Rattle.pipeline.proofs.laws.Opening.{zero_not_one, open_none, stage_fits}
@@ -66,9 +65,9 @@ by_first more f left later ss e = by_record (record_verdict left) refl (of_note 
     by_record : (v : Verdict) → record_verdict left ≡ v → (t : Bool) → of_note (kind_at left) ≡ t → (w : Verdict) → stage_verdict more f (record_at left) ≡ w
         → NoteFirst more f left later ss ⊎ StageFirst more f left later ss
     by_record (Err x) a t n w b = let o = rw a at e in zero_not_one (cc)
-    by_record (Ok tt) a true n w b = inl (record { read = a; note = n; then = rw (a, n) at e })
-    by_record (Ok tt) a false n (Err x) b = let o = rw (a, n, b) at e in zero_not_one (cc)
-    by_record (Ok tt) a false n (Ok tt) b =
+    by_record (Ok _) a true n w b = inl (record { read = a; note = n; then = rw (a, n) at e })
+    by_record (Ok _) a false n (Err x) b = let o = rw (a, n, b) at e in zero_not_one (cc)
+    by_record (Ok _) a false n (Ok _) b =
         let p = split_front (stage_as_opened (next_kind f left)) (open_records (more - 1) (format_after f (next_kind f left)) later) ss (rw (a, n, b) at e) in
         inr (record { rest = p.0; read = a; stage = n; fits = b; stages_are = p.1; then = p.2 })
 
@@ -154,14 +153,14 @@ pub opened_stages : (f : PcmFormat) (ss : List Stage) → stages_of (chain_of f 
 unfolding chain_of
 opened_stages f ss = take_at ss (replicate (8 - length ss) unused_stage) (length ss) refl
 
-pub opened_from : (f : PcmFormat) (bytes : List ℕ) (c : Pipeline) → open_call f bytes ≡ record { verdict = Ok tt; chain = c } → OpenedFrom f bytes c
+pub opened_from : (f : PcmFormat) (bytes : List ℕ) (c : Pipeline) → open_call f bytes ≡ Ok c → OpenedFrom f bytes c
 unfolding open_call
 opened_from f bytes c e = by_format (format_allowed f) refl (open_stages 8 f bytes) refl
   where
     by_format : (b : Bool) → format_allowed f ≡ b → (x : Stages) → open_stages 8 f bytes ≡ x → OpenedFrom f bytes c
-    by_format false h x q = let v = ap (λ (o : Opened). o.verdict) (rw h at e) in zero_not_one (cc)
-    by_format true h (refused y) q = let v = ap (λ (o : Opened). o.verdict) (rw (h, q) at e) in zero_not_one (cc)
-    by_format true h (opened ss) q = record { allowed = h; stages = ss; opens = q; chain_is = sym (ap (λ (o : Opened). o.chain) (rw (h, q) at e)) }
+    by_format false h x q = let v = rw h at e in cc
+    by_format true h (refused y) q = let v = rw (h, q) at e in cc
+    by_format true h (opened ss) q = record { allowed = h; stages = ss; opens = q; chain_is = let v = rw (h, q) at e in cc }
 
 pub count_is : (f : PcmFormat) (ss : List Stage) → (chain_of f ss).count ≡ length ss
 unfolding chain_of

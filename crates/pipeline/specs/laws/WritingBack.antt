@@ -14,7 +14,7 @@ module _ (v : Verdict) (bytes out : List ℕ) where
       × (write_told answer ≡ told_of_writing v (length bytes))
 
   told_by : (w : Verdict) → write_told (write_outcome w bytes out).answer ≡ told_of_writing w (length bytes)
-  told_by (Ok tt) = refl
+  told_by (Ok _) = refl
   told_by (Err e) = refl
 
   pub concluded : (answer : (Result ℕ Error)) (after : List ℕ) (w : Verdict) → v ≡ w → (let r : WriteOutcome = record { answer = answer; out = after } in r ≡ write_outcome w bytes out) → Promised answer after

@@ -57,7 +57,7 @@ module _ (verdict : ℕ → Verdict) (walk : ℕ → Walk) (half : ℕ)
 
 -- ---- what an answer says
 pub known_parts : (v : Verdict) (w : Walk) (frames half : ℕ) → room_answer v w ≡ room.Known frames half → (v ≡ Ok tt) × ((w.frames ≡ frames) × (w.largest ≡ half))
-known_parts (Ok tt) w frames half e = (refl, (cc, cc))
+known_parts (Ok _) w frames half e = (refl, (cc, cc))
 known_parts (Err x) w frames half e = (cc, (cc, cc))
 
 same_formats : (f : PcmFormat) → same_format f f ≡ true

@@ -139,7 +139,7 @@ then_refused true false next e h = h
 then_refused false u next e h = h
 
 answer_refused : (v : Verdict) (c : Pipeline) (n : ℕ) (e : Error) → room_answer v (block_found c n) ≡ room.Refused e → v ≡ Err e
-answer_refused (Ok tt) c n e h = cc
+answer_refused (Ok _) c n e h = cc
 answer_refused (Err x) c n e h = let k : x ≡ e = cc in ap Err k
 
 -- whatever further questions follow those of the frames

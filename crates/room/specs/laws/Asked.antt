@@ -65,7 +65,7 @@ found_legal q c size head =
 
 -- ---- what it answers
 same_answer : (v : Verdict) (w x : Walk) → (v ≡ Ok tt → w ≡ x) → room_answer v w ≡ room_answer v x
-same_answer (Ok tt) w x h = ap (room_answer (Ok tt)) (h refl)
+same_answer (Ok _) w x h = ap (room_answer (Ok tt)) (h refl)
 same_answer (Err e) w x h = refl
 
 module _ (c : Pipeline) (head : head_legal c.format c.count ≡ true) where

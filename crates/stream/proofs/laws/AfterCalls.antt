@@ -109,7 +109,7 @@ module _ (o : Pipeline) (opened : FreshlyOpened o) where
   after_call_lem X r (finish a b) v lent = go (plain_finish o.format (kinds_in o) X (shorter a b)) (finish_plain v a b)
     where
       go : (w : Verdict) → finish_verdict r.chain (shorter a b) ≡ w → Stands (ended_by w X) (after_call r (finish a b))
-      go (Ok tt) h = finish_accepted o opened.places few X r v a b h
+      go (Ok _) h = finish_accepted o opened.places few X r v a b h
       go (Err e) h = finish_refused o opened.places few X r v a b e h
 
   after_calls_lem : (S : Stream) (r : Run) (calls : List Call) → Stands S r → All Lent calls → Stands (stream_from o S calls) (after_calls o S r calls)

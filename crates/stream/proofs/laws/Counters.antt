@@ -58,7 +58,7 @@ unfolding finish_call finished
 finish_counters c a b = go (finish_verdict c (shorter a b))
   where
     go : (w : Verdict) → ((finish_concluded w c (record { a = a; b = b })).chain.blocks ≡ c.blocks) × ((finish_concluded w c (record { a = a; b = b })).chain.empty_blocks ≡ c.empty_blocks)
-    go (Ok tt) = reset_counters c
+    go (Ok _) = reset_counters c
     go (Err e) = (refl, refl)
 
 nothing_call : (r : Run) (call : Call) (n : ℕ) → r.chain.empty_blocks ≡ held_count n → (after_call r call).chain.empty_blocks ≡ held_count (n + nothing_by r call)
@@ -73,7 +73,7 @@ nothing_call r (block format t bytes a b) n e = go (block_verdict r.chain format
     go : (w : Verdict) → (concluded w r.chain t bytes (record { a = a; b = b })).chain.empty_blocks
         ≡ held_count (n + one_if_nothing (concluded w r.chain t bytes (record { a = a; b = b })).answer)
     go (Err x) = rw add-zero e
-    go (Ok tt) = by_length (eqb (output_bytes r.chain bytes) 0) _ _ refl
+    go (Ok _) = by_length (eqb (output_bytes r.chain bytes) 0) _ _ refl
 nothing_call r reset n e = rw add-zero ((reset_counters r.chain).1 ∙ e)
 nothing_call r (finish a b) n e = (finish_counters r.chain a b).1 ∙ e ∙ ap held_count (sym (add-zero n))
 
@@ -100,7 +100,7 @@ module _ (o : Pipeline) (opened : FreshlyOpened o) where
           → (concluded (block_verdict r.chain format (length bytes) (shorter a b)) r.chain t bytes (record { a = a; b = b })).chain.blocks
           ≡ held_count (n + one_if_accepted (plain_verdict o.format (kinds_in o) X format bytes (shorter a b)))
       go (Err x) h = rw (← verdict_plain o opened v format bytes a b, h, add-zero) e
-      go (Ok tt) h = rw (← verdict_plain o opened v format bytes a b, h) (ap counted_up e ∙ one_more n)
+      go (Ok _) h = rw (← verdict_plain o opened v format bytes a b, h) (ap counted_up e ∙ one_more n)
   counted_call X r reset n v e = rw add-zero ((reset_counters r.chain).0 ∙ e)
   counted_call X r (finish a b) n v e = rw add-zero ((finish_counters r.chain a b).0 ∙ e)
 

@@ -134,7 +134,7 @@ module _ (o : Pipeline) (places : length o.stages ≡ 8) (few : o.count ≤ 8) w
       pub after_block : (w : Verdict) → block_verdict r.chain format (length bytes) (shorter a b) ≡ w → Since o (X ++ added_by w Y) (after_call r (block format t bytes a b))
       unfolding block_call
       after_block (Err e) h = rw h after_refused
-      after_block (Ok tt) h = rw h (after_accepted (accepts r.chain format bytes a b h))
+      after_block (Ok _) h = rw h (after_accepted (accepts r.chain format bytes a b h))
 
   -- ---- after a finish a stream begins as after a reset
   pub anew : (X : List Frame) (r : Run) → EndedSince o X r → Since (reset_call o) [] (fresh r.chain)

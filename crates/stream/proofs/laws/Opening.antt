@@ -76,7 +76,7 @@ unfolding suited
 no_stages more f = record { kinds = []; stages = refl; few = omega arith; suit = refl; rates = tt }
 
 asked_first : (more : ℕ) (f : PcmFormat) (v : Verdict) (s : Stages) → (v ≡ Ok tt → UnlessRefused more f s) → UnlessRefused more f (asked v s)
-asked_first more f (Ok tt) s h = h refl
+asked_first more f (Ok _) s h = h refl
 asked_first more f (Err e) s h = tt
 
 -- a note, or a stage
