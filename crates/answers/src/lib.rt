@@ -2,7 +2,7 @@
 #![tactic(auto)]
 
 ghost use Rattle.std.specs.Prelude.{◌≡◌, ◌≤◌, ◌<◌, length};
-ghost use Rattle.answers.specs.Answers.{counted_up, last_half, output_answer, shorter_of, front_of, output_of, half_number, silent_told, answer_told, scratch_told, counted_if, unstaged, next_stage};
+ghost use Rattle.answers.specs.Answers.{counted_up, last_half, output_answer, shorter_of, front_of, output_of, half_number, silent_told, answer_told, counted_if, unstaged, next_stage};
 ghost use Rattle.answers.specs.FinishAnswers.{finish_answer, silent_finish_told, finish_told};
 
 use pcm::{Error, PcmFormat};
@@ -171,34 +171,6 @@ impl FinishAnswer {
             },
             FinishAnswer::NothingYet { clipped } => silent_finish(0, 0, 2, clipped),
             FinishAnswer::Refused(e) => silent_finish(e.number(), e.needed(), 0, 0),
-        }
-    }
-}
-
-#[derive(Clone, Copy)]
-pub enum Scratch {
-    Bytes(usize),
-    Refused(Error),
-}
-
-impl Scratch {
-    // 0, or the refusal's number.
-    pub fn number(self) -> u16
-        ensures { result ≡ (scratch_told self).number }
-    {
-        match self {
-            Scratch::Bytes(_) => 0,
-            Scratch::Refused(e) => e.number(),
-        }
-    }
-
-    // The figure, 0 where it is refused.
-    pub fn value(self) -> usize
-        ensures { result ≡ (scratch_told self).value }
-    {
-        match self {
-            Scratch::Bytes(n) => n,
-            Scratch::Refused(_) => 0,
         }
     }
 }

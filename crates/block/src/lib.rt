@@ -10,7 +10,7 @@ ghost use Rattle.block.specs.BlockCall.{block_call, size_asked, scratch_figure, 
 ghost use Rattle.block.specs.Told.{block_told};
 ghost use Rattle.block.specs.laws.Asking.{Asks};
 
-use answers::{Answer, Scratch};
+use answers::Answer;
 use pcm::{Error, PcmFormat};
 use pipeline::Pipeline;
 use questions::{Question, Walk};
@@ -107,19 +107,16 @@ pub fn walked(chain: Pipeline, question: Question, shorter: usize, start: Walk) 
 
 // Twice the bytes of a half: two such halves are enough for any block of `size` bytes, in any state. The block itself counts, as for
 // a chain of no stages.
-pub fn scratch_bytes(chain: Pipeline, size: usize) -> Scratch
+pub fn scratch_bytes(chain: Pipeline, size: usize) -> Result<usize, Error>
     ensures all { result ≡ scratch_bytes chain size }
     ensures told { scratch_told result ≡ valued (size_asked chain size (Ok tt)) (scratch_figure chain size) }
 {
     let own = chain.format;
     if !questions::head_legal(own, chain.count) {
-        return Scratch::Refused(Error::InvalidFormat);
+        return Err(Error::InvalidFormat);
     }
     let start = questions::begun(own, 0, size, size);
     let walk = walked(chain, Question::AnyState, size, start);
-    let asked = questions::sized(own, size, walk);
-    match asked {
-        Err(e) => Scratch::Refused(e),
-        Ok(()) => Scratch::Bytes(2 * walk.largest),
-    }
+    questions::sized(own, size, walk)?;
+    Ok(2 * walk.largest)
 }

@@ -54,6 +54,7 @@ fn same_format(f: PcmFormat, g: PcmFormat) -> bool
 }
 
 // The questions of a block's size, in their order.
+#[tactic(auto, unfolding(crate::specs::Walk::size_verdict))]
 fn size_question(format: PcmFormat, size: usize) -> Result<(), Error>
     requires { 0 < format.channels }
     ensures { result ≡ size_verdict format size }
@@ -72,6 +73,7 @@ fn size_question(format: PcmFormat, size: usize) -> Result<(), Error>
 }
 
 // The frames of a block; none of one whose size is refused.
+#[tactic(auto, unfolding(crate::specs::Walk::block_frames))]
 fn block_frames(format: PcmFormat, size: usize) -> usize
     requires { 0 < format.channels }
     ensures { result ≡ block_frames format size }
@@ -83,6 +85,7 @@ fn block_frames(format: PcmFormat, size: usize) -> usize
 }
 
 // What a stage that so many frames reach wants and delivers.
+#[tactic(auto, unfolding(crate::specs::Walk::due_of))]
 fn stage_due(question: Question, s: Stage, frames: usize) -> Due
     requires { (frames ≤ 2400000000000) × Bounded s.kind }
     ensures { result ≡ due_of question s frames }
@@ -117,6 +120,7 @@ fn stage_due(question: Question, s: Stage, frames: usize) -> Due
 }
 
 // The first room that the shorter half does not hold, where `room` is the next one wanted.
+#[tactic(auto, unfolding(crate::specs::Walk::first_short))]
 fn first_short(short: usize, room: usize, shorter: usize) -> usize
     ensures { result ≡ first_short shorter short room }
 {
@@ -126,6 +130,7 @@ fn first_short(short: usize, room: usize, shorter: usize) -> usize
     if room <= shorter { 0 } else { room }
 }
 
+#[tactic(auto, unfolding(crate::specs::Walk::larger))]
 fn larger_of(a: usize, b: usize) -> usize
     ensures { result ≡ larger a b }
 {
@@ -172,6 +177,7 @@ pub fn asked(walk: Walk, s: Stage, question: Question, shorter: usize) -> Walk
 }
 
 // The room that a block wants of a chain of no stages.
+#[tactic(auto, unfolding(crate::specs::Walk::copy_room))]
 fn copy_room(count: usize, room: usize) -> usize
     ensures { result ≡ copy_room count room }
 {
@@ -179,6 +185,7 @@ fn copy_room(count: usize, room: usize) -> usize
 }
 
 // The walk before the first of so many stages.
+#[tactic(auto, unfolding(crate::specs::Walk::begun, crate::specs::Walk::block_frames, crate::specs::Walk::size_verdict))]
 pub fn begun(format: PcmFormat, count: usize, size: usize, shorter: usize) -> Walk
     requires { (0 < format.channels) × (format.channels ≤ 2) }
     ensures { result ≡ begun format count size shorter }
@@ -195,6 +202,7 @@ pub fn begun(format: PcmFormat, count: usize, size: usize, shorter: usize) -> Wa
 }
 
 // After the walk: is every stage legal, and the size?
+#[tactic(auto, unfolding(crate::specs::Walk::sized_from))]
 pub fn sized(format: PcmFormat, size: usize, walk: Walk) -> Result<(), Error>
     requires { 0 < format.channels }
     ensures { result ≡ sized_from format size walk }
@@ -206,6 +214,7 @@ pub fn sized(format: PcmFormat, size: usize, walk: Walk) -> Result<(), Error>
 }
 
 // The same, then: in the chain's format, and room?
+#[tactic(auto, unfolding(crate::specs::Walk::verdict_from))]
 pub fn verdict(own: PcmFormat, format: PcmFormat, size: usize, walk: Walk) -> Result<(), Error>
     requires { (0 < own.channels) × (walk.short ≤ 3688000000000000000) }
     ensures { result ≡ verdict_from own format size walk }

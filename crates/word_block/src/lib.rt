@@ -13,7 +13,7 @@ ghost use Rattle.block.specs.laws.Asking.{Asks};
 ghost use Rattle.chain_words.specs.Layout.{counter_words, counter_at, chain_at, stands, chain_of_words};
 ghost use Rattle.word_block.specs.Words.{legal_head, SettingsStay, WordsAfter};
 
-use answers::{Answer, Scratch};
+use answers::Answer;
 use pcm::{Error, PcmFormat};
 use questions::{Question, Walk};
 use stage::Stage;
@@ -118,19 +118,16 @@ pub fn process(
 }
 
 // Twice the bytes of a half: two such halves are enough for any block of `size` bytes, in any state.
-pub fn scratch_bytes(words: &[u32], size: usize) -> Scratch
+pub fn scratch_bytes(words: &[u32], size: usize) -> Result<usize, Error>
     ensures { result ≡ scratch_bytes (chain_of_words words.now) size }
 {
     if !legal_head(words) {
-        return Scratch::Refused(Error::InvalidFormat);
+        return Err(Error::InvalidFormat);
     }
     let own = chain_words::format_of(words);
     let count = chain_words::count_of(words);
     let start = questions::begun(own, 0, size, size);
     let walk = walked(words, count, Question::AnyState, size, start);
-    let verdict = questions::sized(own, size, walk);
-    match verdict {
-        Ok(()) => Scratch::Bytes(2 * walk.largest),
-        Err(e) => Scratch::Refused(e),
-    }
+    questions::sized(own, size, walk)?;
+    Ok(2 * walk.largest)
 }
