@@ -14,7 +14,7 @@ use Rattle.pipeline.specs.Reset.{format_leaving}
 use Rattle.pipeline.specs.WritingBack.{stages_of}
 use Rattle.turns.specs.Turns.{halves}
 use Rattle.answers.specs.declared.Answer.TheVariants as answer
-use Rattle.block.specs.BlockCall.{Result, size_asked, block_verdict, shorter, output_bytes, block_clipped, accepted, concluded, block_call, scratch_answer, scratch_figure, scratch_bytes}
+use Rattle.block.specs.BlockCall.{BlockResult, size_asked, block_verdict, shorter, output_bytes, block_clipped, accepted, concluded, block_call, scratch_answer, scratch_figure, scratch_bytes}
 use Rattle.answers.specs.Answers.{last_half, sound_told, silent_told, answer_told, scratch_told}
 use Rattle.block.specs.Told.{told_of_block, block_told}
 
@@ -37,9 +37,9 @@ module _ (c : Pipeline) (format : PcmFormat) (t : ℕ) (block a b : List ℕ) wh
   told_by (Ok _) = nothing_or_sound (eqb len 0)
   told_by (Err e) = refl
 
-  pub with_told : (r : Result) → r ≡ block_call c format t block a b → (r ≡ block_call c format t block a b) × (answer_told r.answer ≡ block_told c format t block a b)
+  pub with_told : (r : BlockResult) → r ≡ block_call c format t block a b → (r ≡ block_call c format t block a b) × (answer_told r.answer ≡ block_told c format t block a b)
   unfolding block_call
-  with_told r e = (e, ap (λ (x : Result). answer_told x.answer) e ∙ told_by (block_verdict c format (length block) (shorter a b)))
+  with_told r e = (e, ap (λ (x : BlockResult). answer_told x.answer) e ∙ told_by (block_verdict c format (length block) (shorter a b)))
 
 valued_by : (v : Verdict) (n : ℕ) → scratch_told (scratch_answer v n) ≡ valued v n
 valued_by (Ok _) n = refl

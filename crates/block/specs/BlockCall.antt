@@ -73,7 +73,7 @@ halves_after [] xs bytes h = put 0 bytes h
 halves_after (s ∷ rest) xs bytes h = passed 0 (s ∷ rest) xs h
 
 -- what a call leaves behind
-pub record Result : Type 0 where
+pub record BlockResult : Type 0 where
   pub chain : Pipeline
   pub answer : Answer
   pub a : List ℕ
@@ -97,7 +97,7 @@ output_bytes c bytes = length (bytes_of (chain_out (stages_of c) (frames_of c.fo
 abbrev pub block_clipped : Pipeline → List ℕ → ℕ
 block_clipped c bytes = chain_clipped (stages_of c) (frames_of c.format.channels bytes)
 
-unfoldable pub accepted : Pipeline → ℕ → List ℕ → Halves → Result
+unfoldable pub accepted : Pipeline → ℕ → List ℕ → Halves → BlockResult
 accepted c timestamp bytes h = record {
   chain = counted_chain c (chain_next (stages_of c) (frames_of c.format.channels bytes) ++ drop c.count c.stages) (output_bytes c bytes);
   answer = output_answer (format_leaving c.format (stages_of c)) timestamp (last_half c.count) (output_bytes c bytes) (block_clipped c bytes);
@@ -109,12 +109,12 @@ abbrev pub shorter : List ℕ → List ℕ → ℕ
 shorter a b = shorter_of (length a) (length b)
 
 -- a refusal alters nothing
-abbrev pub concluded : Verdict → Pipeline → ℕ → List ℕ → Halves → Result
+abbrev pub concluded : Verdict → Pipeline → ℕ → List ℕ → Halves → BlockResult
 concluded (Ok _) c timestamp bytes h = accepted c timestamp bytes h
 concluded (Err e) c timestamp bytes h = record { chain = c; answer = answer.Refused e; a = h.a; b = h.b }
 
 -- the block call: from the chain, the block and the two halves to all that is there afterwards
-unfoldable pub block_call : Pipeline → PcmFormat → ℕ → List ℕ → List ℕ → List ℕ → Result
+unfoldable pub block_call : Pipeline → PcmFormat → ℕ → List ℕ → List ℕ → List ℕ → BlockResult
 block_call c format timestamp bytes a b =
     concluded (block_verdict c format (length bytes) (shorter a b)) c timestamp bytes (record { a = a; b = b })
 

@@ -6,7 +6,7 @@ use Rattle.pcm.specs.Frames.{written}
 use Rattle.pcm.specs.Refusals.{refusal, Verdict}
 use Rattle.pipeline.specs.declared.Pipeline.{Pipeline}
 use Rattle.answers.specs.declared.Told.{Told}
-use Rattle.block.specs.BlockCall.{Result}
+use Rattle.block.specs.BlockCall.{BlockResult}
 use Rattle.answers.specs.Answers.{answer_told, scratch_told}
 use Rattle.word_finish.specs.Words.{Outcome}
 use Rattle.chain_words.specs.Layout.{words_of}
@@ -31,7 +31,7 @@ pub record BlockOutcome : Type 0 where
   pub a : List ℕ
   pub b : List ℕ
 
-abbrev pub block_outcome : Result → BlockOutcome
+abbrev pub block_outcome : BlockResult → BlockOutcome
 block_outcome r = record { result = answer_told r.answer; chain = r.chain; a = r.a; b = r.b }
 
 -- ---- the other calls

@@ -22,7 +22,7 @@ use Rattle.answers.specs.declared.Answer.TheVariants as answer
 use Rattle.answers.specs.declared.FinishAnswer.{FinishAnswer}
 use Rattle.answers.specs.declared.FinishAnswer.TheVariants as finished
 use Rattle.answers.specs.Answers.{front_of, output_of}
-use Rattle.block.specs.BlockCall.{Result}
+use Rattle.block.specs.BlockCall.{BlockResult}
 use Rattle.finish.specs.FinishCall.{FinishResult}
 use Rattle.stream.specs.Calls.{output_by, call_output, finish_output_by, finish_output}
 use Rattle.playing.specs.Playing.{Playing, Played, going, stopped, gathering, verdict_by, finish_verdict_by}
@@ -37,7 +37,7 @@ block_verdict_lem (answer.Output format timestamp side len clipped) = refl
 block_verdict_lem (answer.NothingYet clipped) = refl
 block_verdict_lem (answer.Refused e) = refl
 
-block_output : (x : Answer) (r : Result) → output_of (block_piece x).half (block_piece x).len r.a r.b ≡ output_by x r
+block_output : (x : Answer) (r : BlockResult) → output_of (block_piece x).half (block_piece x).len r.a r.b ≡ output_by x r
 block_output (answer.Output format timestamp side len clipped) r = refl
 block_output (answer.NothingYet clipped) r = none_in_front r.a
 block_output (answer.Refused e) r = none_in_front r.a
@@ -52,7 +52,7 @@ finish_output_lem (finished.Output format side len clipped) r = refl
 finish_output_lem (finished.NothingYet clipped) r = none_in_front r.a
 finish_output_lem (finished.Refused e) r = none_in_front r.a
 
-pub block_joined : (r : Result) (n : ℕ) (out : List ℕ) → joined (block_piece r.answer) r.a r.b n out ≡ joined_by (verdict_by r.answer) n (call_output r) out
+pub block_joined : (r : BlockResult) (n : ℕ) (out : List ℕ) → joined (block_piece r.answer) r.a r.b n out ≡ joined_by (verdict_by r.answer) n (call_output r) out
 unfolding joined
 block_joined r n out = rw (block_verdict_lem r.answer, block_output r.answer r)
 

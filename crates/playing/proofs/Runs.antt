@@ -9,7 +9,7 @@ use Rattle.pcm.specs.declared.PcmFormat.{PcmFormat}
 use Rattle.pcm.specs.declared.Error.{Error}
 use Rattle.pcm.specs.Frames.{cut, written}
 use Rattle.pipeline.specs.declared.Pipeline.{Pipeline}
-use Rattle.block.specs.BlockCall.{Result, block_call}
+use Rattle.block.specs.BlockCall.{BlockResult, block_call}
 use Rattle.finish.specs.FinishCall.{FinishResult, finish_call}
 use Rattle.stream.specs.Calls.{call_output, finish_output}
 use Rattle.playing.specs.Playing.{Played, unless_stopped, verdict_by, block_gathered, finish_verdict_by, finish_gathered, play_blocks, left}
@@ -44,7 +44,7 @@ module _ {c : Pipeline} {f : PcmFormat} {size count : ℕ} {sound a₀ b₀ out�
   whole = play_blocks (length out₀) f (cut size count sound) (record { chain = c; a = a₀; b = b₀; sound = [] })
 
   -- ---- a block more, whose call left r behind, and whose output was joined on
-  module _ (later : ℕ) (k : more ≡ suc later) (r : Result) (e : r ≡ block_call moved f 0 (take (block_end at size (length sound) - at) (drop at sound)) a b) (j : Joined) (q : j ≡ joined (block_piece r.answer) r.a r.b n out) where
+  module _ (later : ℕ) (k : more ≡ suc later) (r : BlockResult) (e : r ≡ block_call moved f 0 (take (block_end at size (length sound) - at) (drop at sound)) a b) (j : Joined) (q : j ≡ joined (block_piece r.answer) r.a r.b n out) where
     block_at : cut size more (drop at sound) ≡ take (block_end at size (length sound) - at) (drop at sound) ∷ cut size later (drop (block_end at size (length sound)) sound)
     block_at = ap (λ (m : ℕ). cut size m (drop at sound)) k ∙ ap₂ (λ (x y : List ℕ). x ∷ cut size later y) (sym (block_is size sound at o.within)) (rest_is size sound at o.within)
 

@@ -18,7 +18,7 @@ use Rattle.answers.specs.declared.Answer.{Answer}
 use Rattle.answers.specs.declared.Answer.TheVariants as answer
 use Rattle.answers.specs.declared.FinishAnswer.{FinishAnswer}
 use Rattle.answers.specs.declared.FinishAnswer.TheVariants as finished
-use Rattle.block.specs.BlockCall.{Result, block_call}
+use Rattle.block.specs.BlockCall.{BlockResult, block_call}
 use Rattle.finish.specs.FinishCall.{FinishResult, finish_call}
 use Rattle.stream.specs.Calls.{call_output, finish_output}
 
@@ -60,7 +60,7 @@ verdict_by (answer.Output format timestamp side len clipped) = Ok tt
 verdict_by (answer.NothingYet clipped) = Ok tt
 verdict_by (answer.Refused e) = Err e
 
-abbrev pub block_gathered : ℕ → Result → List ℕ → Played
+abbrev pub block_gathered : ℕ → BlockResult → List ℕ → Played
 block_gathered limit r sound = gathering limit (verdict_by r.answer) (call_output r) (record { chain = r.chain; a = r.a; b = r.b; sound = sound })
 
 abbrev pub after_block : ℕ → PcmFormat → List ℕ → Playing → Played

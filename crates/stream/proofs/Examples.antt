@@ -22,7 +22,7 @@ use Rattle.pipeline.specs.Opening.{open_records, open_stages, chain_of, open_cal
 use Rattle.pipeline.specs.Reset.{format_leaving}
 use Rattle.answers.specs.declared.Answer.TheVariants.{NothingYet}
 use Rattle.answers.specs.declared.FinishAnswer.TheVariants as finished
-use Rattle.block.specs.BlockCall.{suited, legal, rooms_verdict, block_verdict, passed, accepted, Result, block_call}
+use Rattle.block.specs.BlockCall.{suited, legal, rooms_verdict, block_verdict, passed, accepted, BlockResult, block_call}
 use Rattle.ending.specs.ResamplerEnd.{on_last, whole_last, held_last, resampler_end, end_count, end_frame_count}
 use Rattle.ending.specs.StageEnd.{stage_end, frames_at_end}
 use Rattle.finish.specs.FinishCall as finishing
@@ -69,7 +69,7 @@ chain_f = ap (λ (x : Opened). x.chain) opened_f
 abbrev lent_half : List ℕ
 lent_half = 7 ∷ 7 ∷ 7 ∷ 7 ∷ 7 ∷ 7 ∷ 7 ∷ 7 ∷ 7 ∷ 7 ∷ []
 
-abbrev played : Pipeline → List ℕ → Result
+abbrev played : Pipeline → List ℕ → BlockResult
 played c bytes = block_call c mono8000 0 bytes lent_half lent_half
 
 cut_f : ((played opened (0 ∷ 0 ∷ [])).answer ≡ NothingYet 0)

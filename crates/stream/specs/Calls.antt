@@ -7,7 +7,7 @@ use Rattle.pipeline.specs.declared.Pipeline.{Pipeline}
 use Rattle.pipeline.specs.Reset.{reset_call}
 use Rattle.answers.specs.declared.Answer.{Answer}
 use Rattle.answers.specs.declared.Answer.TheVariants as answer
-use Rattle.block.specs.BlockCall.{Result, block_call}
+use Rattle.block.specs.BlockCall.{BlockResult, block_call}
 use Rattle.answers.specs.Answers.{output_of}
 use Rattle.answers.specs.declared.FinishAnswer.{FinishAnswer}
 use Rattle.answers.specs.declared.FinishAnswer.TheVariants as finished
@@ -26,12 +26,12 @@ Lent reset = Unit {0}
 Lent (finish a b) = Unit {0}
 
 -- ---- a call's output, as the small call hands it back on return; 'nothing yet' or a number has empty output
-abbrev pub output_by : Answer → Result → List ℕ
+abbrev pub output_by : Answer → BlockResult → List ℕ
 output_by (answer.Output format timestamp side len clipped) r = output_of side len r.a r.b
 output_by (answer.NothingYet clipped) r = []
 output_by (answer.Refused e) r = []
 
-abbrev pub call_output : Result → List ℕ
+abbrev pub call_output : BlockResult → List ℕ
 call_output r = output_by r.answer r
 
 abbrev pub finish_output_by : FinishAnswer → FinishResult → List ℕ
@@ -64,7 +64,7 @@ pub record Run : Type 0 where
 abbrev pub fresh : Pipeline → Run
 fresh c = record { chain = c; joined = []; clipped = 0 }
 
-abbrev pub joined_by : Run → Result → Run
+abbrev pub joined_by : Run → BlockResult → Run
 joined_by run r = record { chain = r.chain; joined = run.joined ++ call_output r; clipped = run.clipped + clipped_by r.answer }
 
 abbrev pub finished_by : Run → FinishResult → Run

@@ -15,7 +15,7 @@ use Rattle.answers.specs.declared.Answer.TheVariants as answer
 use Rattle.questions.specs.declared.Question.TheVariants.{Block, AnyState}
 use Rattle.questions.specs.declared.Walk.{Walk}
 use Rattle.turns.specs.Turns.{Halves}
-use Rattle.block.specs.BlockCall.{Result, block_verdict, shorter, output_bytes, block_clipped, accepted, scratch_answer, scratch_bytes}
+use Rattle.block.specs.BlockCall.{BlockResult, block_verdict, shorter, output_bytes, block_clipped, accepted, scratch_answer, scratch_bytes}
 use Rattle.answers.specs.Answers.{last_half}
 use Rattle.pipeline.specs.WritingBack.{stages_of}
 use Rattle.pipeline.specs.Reset.{format_leaving}
@@ -66,7 +66,7 @@ accepted_stands w format block a b h = few_stands w (legal_parts (chain_of_words
 -- its answer is no refusal
 pub words_accepted : (c d : Pipeline) (t : ℕ) (block : List ℕ) (h : Halves) (r : Answer) (a b w w' : List ℕ) → record { chain = d; answer = r; a = a; b = b } ≡ accepted c t block h → SettingsStay w w' → WordsAfter r w w'
 unfolding accepted
-words_accepted c d t block h r a b w w' e stay = subst (λ (x : Answer). WordsAfter x w w') (sym (ap (λ (x : Result). x.answer) e)) (go (eqb (output_bytes c block) 0))
+words_accepted c d t block h r a b w w' e stay = subst (λ (x : Answer). WordsAfter x w w') (sym (ap (λ (x : BlockResult). x.answer) e)) (go (eqb (output_bytes c block) 0))
   where
     go : (z : Bool) → WordsAfter (cond z (answer.NothingYet (block_clipped c block)) (answer.Output (format_leaving c.format (stages_of c)) t (last_half c.count) (output_bytes c block) (block_clipped c block))) w w'
     go true = stay

@@ -6,7 +6,7 @@ use Prim.Native.Nat.{ℕ, suc, ◌+◌, ◌-◌, ◌*◌, ◌≤◌}
 use native.Mathlib.Omega.{arith}
 use lib.ListN.{length, take, drop}
 use Rattle.pcm.specs.Frames.{cut}
-use Rattle.block.specs.BlockCall.{Result, block_call}
+use Rattle.block.specs.BlockCall.{BlockResult, block_call}
 use Rattle.finish.specs.FinishCall.{FinishResult}
 use Rattle.playing.specs.laws.Formats.{format_limits}
 use Rattle.playing.specs.declared.Piece.{Piece}
@@ -56,7 +56,7 @@ within c =
     let l = c.before.before in
     rw c.block_end-end.ensures (block_within (size_of l) (entry l).args.sound.now c.loop-i.at c.loop-i.invariant.2.within)
 
-abbrev result_of : tie.After-process-done invariant-loop decreases-loop → Result
+abbrev result_of : tie.After-process-done invariant-loop decreases-loop → BlockResult
 result_of p = record { chain = p.process-done.result.chain; answer = p.process-done.result.answer; a = p.process-done.new.a; b = p.process-done.new.b }
 
 call_is : (p : tie.After-process-done invariant-loop decreases-loop) → let l = loop_of p in let s = (entry l).args in

@@ -21,7 +21,7 @@ use Rattle.questions.specs.declared.Question.TheVariants.{Block, Finish}
 use Rattle.questions.specs.Walk.{whole_frames, size_verdict, begun}
 use Rattle.turns.specs.Turns.{halves}
 use Rattle.block.specs.Chain.{chain_out}
-use Rattle.block.specs.BlockCall.{legal, size_asked, block_verdict, block_clipped, output_bytes, shorter, Result, accepted, concluded, block_call}
+use Rattle.block.specs.BlockCall.{legal, size_asked, block_verdict, block_clipped, output_bytes, shorter, BlockResult, accepted, concluded, block_call}
 use Rattle.block.specs.laws.Beforehand.{frames_leaving}
 use Rattle.block.specs.laws.Bounds.{legal_parts}
 use Rattle.block.specs.laws.Walking.{begins, frames_are}
@@ -90,7 +90,7 @@ module _ (c : Pipeline) (sound : Sounding c) (n frames half : ℕ) (known : bloc
         let l : output_bytes c bytes ≡ frames * leaving_bytes c =
         length_bytes (format_leaving c.format (stages_of c)).channels (chain_out (stages_of c) (frames_of c.format.channels bytes)) (sound.leaving _ (frames_are_frames c.format.channels bytes good))
         ∙ ap (λ (m : ℕ). m * leaving_bytes c) (exact bytes long) in
-        (e, ap (λ (r : Result). r.answer) e ∙ ap (λ (m : ℕ). output_answer (format_leaving c.format (stages_of c)) timestamp (last_half c.count) m (block_clipped c bytes)) l);
+        (e, ap (λ (r : BlockResult). r.answer) e ∙ ap (λ (m : ℕ). output_answer (format_leaving c.format (stages_of c)) timestamp (last_half c.count) m (block_clipped c bytes)) l);
     refused = λ timestamp bytes a b long some h k.
         by_verdict bytes long timestamp a b _ (ap (block_verdict c c.format (n * frame_bytes c)) (both_of (half - 1) a b h k) ∙ smallest.one_less some);
   }

@@ -20,7 +20,7 @@ use Rattle.answers.specs.declared.Answer.TheVariants as answer
 use Rattle.block.specs.Chain.{chain_out, chain_next, chain_clipped}
 use Rattle.block.specs.laws.Chain.{length_chain_next}
 use Rattle.turns.specs.Turns.{Halves}
-use Rattle.block.specs.BlockCall.{Result, put, passed, halves_after, output_bytes, block_clipped, accepted}
+use Rattle.block.specs.BlockCall.{BlockResult, put, passed, halves_after, output_bytes, block_clipped, accepted}
 use Rattle.answers.specs.Answers.{last_half, output_answer, front_of, output_of}
 use Rattle.pipeline.specs.WritingBack.{stages_of}
 use Rattle.block.specs.laws.Bounds.{legal_parts}
@@ -89,7 +89,7 @@ handed_back : (bytes : List ℕ) (side : Half) (a b : List ℕ) → take (length
 handed_back bytes half.A a b h = front_is bytes a h
 handed_back bytes half.B a b h = front_is bytes b h
 
-output_is : (bytes : List ℕ) (f : PcmFormat) (t : ℕ) (side : Half) (clipped : ℕ) (r : Result) → r.answer ≡ output_answer f t side (length bytes) clipped → take (length bytes) (side_of side r.a r.b) ≡ bytes
+output_is : (bytes : List ℕ) (f : PcmFormat) (t : ℕ) (side : Half) (clipped : ℕ) (r : BlockResult) → r.answer ≡ output_answer f t side (length bytes) clipped → take (length bytes) (side_of side r.a r.b) ≡ bytes
     → call_output r ≡ bytes
 output_is [] f t side clipped r e h = ap (λ (x : Answer). output_by x r) e
 output_is (x ∷ bytes) f t side clipped r e h =
@@ -143,7 +143,7 @@ module _ (c : Pipeline) (eight : length c.stages ≡ 8) where
     pub accepted_output : Bytes block → call_output (accepted c t block (record { a = a; b = b })) ≡ bytes_of (chain_out (stages_of c) xs)
     unfolding accepted
     accepted_output bytes =
-        let r : Result = accepted c t block (record { a = a; b = b }) in
+        let r : BlockResult = accepted c t block (record { a = a; b = b }) in
         let n : c.count ≡ length (stages_of c) = sym (length-take-le c.count c.stages (omega (arith, few))) in
         output_is (bytes_of (chain_out (stages_of c) xs)) (format_leaving c.format (stages_of c)) t (last_half c.count) _ r refl
         (half_holds (stages_of c) c.count xs block (record { a = a; b = b }) n (bytes_frames c.format.channels block w.whole bytes))

@@ -10,7 +10,7 @@ use Rattle.answers.specs.declared.FinishAnswer.{FinishAnswer}
 use Rattle.answers.specs.declared.FinishAnswer.TheVariants as finished
 use Rattle.answers.specs.Answers.{half_number, output_of, answer_told}
 use Rattle.answers.specs.FinishAnswers.{finish_told}
-use Rattle.block.specs.BlockCall.{Result, block_call}
+use Rattle.block.specs.BlockCall.{BlockResult, block_call}
 use Rattle.finish.specs.FinishCall.{FinishResult, finish_call}
 use Rattle.stream.specs.Calls.{Call, block, reset, finish, call_output, finish_output, clipped_by, finish_clipped_by, Run, fresh, joined_by, finished_by}
 use Rattle.stream.specs.Stream.{Stream, fed, after_feeding, within, after_calls}
@@ -26,7 +26,7 @@ taken_half : (side : Half) (len : ℕ) (a b : List ℕ) → taken 1 (half_number
 taken_half half.A len a b = refl
 taken_half half.B len a b = refl
 
-taken_is : (r : Result) → taken (answer_told r.answer).outcome (answer_told r.answer).half (answer_told r.answer).len r.a r.b ≡ call_output r
+taken_is : (r : BlockResult) → taken (answer_told r.answer).outcome (answer_told r.answer).half (answer_told r.answer).len r.a r.b ≡ call_output r
 taken_is r = go r.answer
   where
     go : (x : Answer) → taken (answer_told x).outcome (answer_told x).half (answer_told x).len r.a r.b ≡ call_output (record { chain = r.chain; answer = x; a = r.a; b = r.b })
@@ -59,7 +59,7 @@ words_as_run none = refl
 words_as_run {o} {S} {r} (played {calls = calls} format timestamp bytes a b result w a₁ b₁ e more) =
     ap (λ (x : Run). after_calls o (after_feeding o (fed S) (block format timestamp bytes a b)) x calls) (sym (same_run (within S (run_on_words r)) (block_call (chain_of_words r.words) format timestamp bytes a b) result (chain_of_words w) a₁ b₁ e)) ∙ words_as_run more
   where
-    same_run : (run : Run) (x : Result) (result : Told) (c : Pipeline) (a b : List ℕ) → record { result = result; chain = c; a = a; b = b } ≡ block_outcome x
+    same_run : (run : Run) (x : BlockResult) (result : Told) (c : Pipeline) (a b : List ℕ) → record { result = result; chain = c; a = a; b = b } ≡ block_outcome x
         → record { chain = c; joined = run.joined ++ taken result.outcome result.half result.len a b; clipped = run.clipped + result.clipped } ≡ joined_by run x
     same_run run x result c a b e =
         ap (λ (y : BlockOutcome). let z : Run = record { chain = y.chain; joined = run.joined ++ taken y.result.outcome y.result.half y.result.len y.a y.b; clipped = run.clipped + y.result.clipped } in z) e
