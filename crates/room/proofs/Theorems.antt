@@ -6,7 +6,6 @@ use Rattle.pcm.specs.declared.Error.{Error}
 use Rattle.pcm.specs.declared.PcmFormat.{PcmFormat}
 use Rattle.pipeline.specs.declared.Pipeline.{Pipeline}
 use Rattle.block.specs.BlockCall.{legal, block_verdict}
-use Rattle.room.specs.declared.Room.TheVariants as room
 use Rattle.room.specs.Beforehand.{Smallest, BlockBeforehand, FinishBeforehand, Sounding, frame_bytes}
 use Rattle.room.specs.Room.{block_room}
 use Rattle.room.proofs.laws.Enough.{no_larger}
@@ -21,7 +20,7 @@ module _ (c : Pipeline) (sound : Sounding c) (lawful : legal c ≡ true) where
   finish_beforehand = let e = finish_answered c lawful in record { frames = _; half = _; answer = e; known = finish_known c sound _ _ e }
 
 -- what is refused beforehand, the block call refuses with the same number, whatever the halves
-pub refused_alike : (c : Pipeline) (n : ℕ) (e : Error) → block_room c n ≡ room.Refused e → (format : PcmFormat) (shorter : ℕ) → block_verdict c format (n * frame_bytes c) shorter ≡ Err e
+pub refused_alike : (c : Pipeline) (n : ℕ) (e : Error) → block_room c n ≡ Err e → (format : PcmFormat) (shorter : ℕ) → block_verdict c format (n * frame_bytes c) shorter ≡ Err e
 unfolding block_verdict
 refused_alike c n e known format shorter = refused_then c n e known _
 

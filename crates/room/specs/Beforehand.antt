@@ -15,7 +15,6 @@ use Rattle.answers.specs.FinishAnswers.{finish_answer}
 use Rattle.block.specs.Chain.{chain_out}
 use Rattle.block.specs.BlockCall.{block_verdict, block_clipped, accepted, block_call}
 use Rattle.finish.specs.FinishCall.{chain_end, finish_verdict, finish_clipped, finished, finish_call}
-use Rattle.room.specs.declared.Room.TheVariants as room
 use Rattle.room.specs.Room.{block_room, finish_room}
 
 -- ---- the smallest halves
@@ -68,13 +67,13 @@ pub record FinishKnown (c : Pipeline) (frames half : ℕ) : Type 0 where
 pub record BlockBeforehand (c : Pipeline) (n : ℕ) : Type 0 where
   pub frames : ℕ
   pub half : ℕ
-  pub answer : block_room c n ≡ room.Known frames half
+  pub answer : block_room c n ≡ Ok (record { frames = frames; half = half })
   pub known : BlockKnown c n frames half
 
 pub record FinishBeforehand (c : Pipeline) : Type 0 where
   pub frames : ℕ
   pub half : ℕ
-  pub answer : finish_room c ≡ room.Known frames half
+  pub answer : finish_room c ≡ Ok (record { frames = frames; half = half })
   pub known : FinishKnown c frames half
 
 -- ---- what these suppose of a chain, which one that was opened has after any calls: eight places; and where frames of 16-bit samples enter it,

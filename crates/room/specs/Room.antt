@@ -1,5 +1,7 @@
 -- The room known beforehand (document 02, Q-5). Definitions only.
-use Rattle.std.specs.Prelude.{ℕ, ◌*◌, leb, ltb, Ok, Err}
+use Rattle.pcm.specs.declared.Error.{Error}
+use Rattle.room.specs.declared.Room.{Room}
+use Rattle.std.specs.Prelude.{ℕ, ◌*◌, leb, ltb, Ok, Err, Result}
 use Rattle.pcm.specs.declared.Error.TheVariants.{InvalidFormat, InvalidGeometry, TooLong}
 use Rattle.pcm.specs.Refusals.{ask, number_of, if_accepted, refusal, Verdict}
 use Rattle.pipeline.specs.declared.Pipeline.{Pipeline}
@@ -9,8 +11,6 @@ use Rattle.questions.specs.declared.Question.TheVariants.{Block, Finish}
 use Rattle.questions.specs.declared.Walk.{Walk}
 use Rattle.questions.specs.Walk.{begun, walked}
 use Rattle.block.specs.BlockCall.{legal}
-use Rattle.room.specs.declared.Room.{Room}
-use Rattle.room.specs.declared.Room.TheVariants as room
 use Rattle.room.specs.declared.RoomTold.{RoomTold}
 
 -- ---- what the stages of the chain in its present state will want and deliver, where `size` bytes arrive: by the one walk that asks a call's
@@ -41,21 +41,21 @@ finish_asked c = ask (legal c) InvalidFormat (Ok tt)
 -- ---- the answer
 -- 'the exact number of output frames', those that leave the last stage, 'and the smallest equal halves that are accepted': in bytes of one half
 -- the largest room wanted over the stages that will be reached, for no stages by the block; at a finish a stage wants room for what it delivers
-abbrev pub room_answer : Verdict → Walk → Room
-room_answer (Ok _) w = room.Known w.frames w.largest
-room_answer (Err e) w = room.Refused e
+abbrev pub room_answer : Verdict → Walk → Result Room Error
+room_answer (Ok _) w = Ok (record { frames = w.frames; half = w.largest })
+room_answer (Err e) w = Err e
 
-unfoldable pub block_room : Pipeline → ℕ → Room
+unfoldable pub block_room : Pipeline → ℕ → Result Room Error
 block_room c n = room_answer (block_asked c n) (block_found c n)
 
 -- 'The same for finish'
-unfoldable pub finish_room : Pipeline → Room
+unfoldable pub finish_room : Pipeline → Result Room Error
 finish_room c = room_answer (finish_asked c) (finish_found c)
 
 -- ---- number and values: of each case, and by what the questions came to
-abbrev pub room_told : Room → RoomTold
-room_told (room.Known frames half) = record { number = 0; frames = frames; half = half }
-room_told (room.Refused e) = record { number = (refusal e).number; frames = 0; half = 0 }
+abbrev pub room_told : (Result Room Error) → RoomTold
+room_told (Ok known) = record { number = 0; frames = known.frames; half = known.half }
+room_told (Err e) = record { number = (refusal e).number; frames = 0; half = 0 }
 
 abbrev pub told_of_room : Verdict → Walk → RoomTold
 told_of_room v w = record { number = number_of v; frames = if_accepted v w.frames 0; half = if_accepted v w.largest 0 }

@@ -15,9 +15,9 @@ use questions::{Question, Walk};
 
 // The frames that leave the last stage, 0 where that would be 'nothing yet', and the bytes of each of the smallest two equal halves.
 #[derive(Clone, Copy)]
-pub enum Room {
-    Known { frames: usize, half: usize },
-    Refused(Error),
+pub struct Room {
+    pub frames: usize,
+    pub half: usize,
 }
 
 // Number and values of it: a value that there is not is 0.
@@ -29,18 +29,18 @@ pub struct RoomTold {
     pub half: usize,
 }
 
-impl Room {
+impl From<Result<Room, Error>> for RoomTold {
+    ghost from_gives = { λ answer told. told ≡ room_told answer };
+
     // Number and values of each case.
-    pub fn told(self) -> RoomTold
-        ensures { result ≡ room_told self }
-    {
-        match self {
-            Room::Known { frames, half } => RoomTold {
+    fn from(answer: Result<Room, Error>) -> RoomTold {
+        match answer {
+            Ok(known) => RoomTold {
                 number: 0,
-                frames,
-                half,
+                frames: known.frames,
+                half: known.half,
             },
-            Room::Refused(e) => RoomTold {
+            Err(e) => RoomTold {
                 number: e.number(),
                 frames: 0,
                 half: 0,
@@ -69,34 +69,31 @@ pub fn asked_bytes(format: PcmFormat, frames: usize) -> usize
 
 // What a walk whose questions were answered yes has found.
 fn known(walk: Walk) -> Room
-    ensures { result ≡ Room.Known walk.frames walk.largest }
+    ensures { result ≡ record { frames = walk.frames; half = walk.largest } }
 {
-    Room::Known {
+    Room {
         frames: walk.frames,
         half: walk.largest,
     }
 }
 
 // After the walk that asks a block's questions: is every stage legal, and the size?
-pub fn of_block(format: PcmFormat, size: usize, walk: Walk) -> Room
+pub fn of_block(format: PcmFormat, size: usize, walk: Walk) -> Result<Room, Error>
     requires { 0 < format.channels }
     ensures { result ≡ room_answer (sized_from format size walk) walk }
 {
-    let asked = questions::sized(format, size, walk);
-    match asked {
-        Err(e) => Room::Refused(e),
-        Ok(()) => known(walk),
-    }
+    questions::sized(format, size, walk)?;
+    Ok(known(walk))
 }
 
 // After the walk that asks a finish's: is every stage legal?
-pub fn of_finish(walk: Walk) -> Room
+pub fn of_finish(walk: Walk) -> Result<Room, Error>
     ensures { result ≡ room_answer (ask walk.legal InvalidFormat (Ok tt)) walk }
 {
     if !walk.legal {
-        return Room::Refused(Error::InvalidFormat);
+        return Err(Error::InvalidFormat);
     }
-    known(walk)
+    Ok(known(walk))
 }
 
 // What the walk that asks finds of a call in which `size` bytes arrive.
@@ -109,25 +106,25 @@ fn walked(chain: Pipeline, question: Question, size: usize) -> Walk
 }
 
 // What a block of so many frames will bring, whatever its bytes.
-pub fn block_room(chain: Pipeline, frames: usize) -> Room
+pub fn block_room(chain: Pipeline, frames: usize) -> Result<Room, Error>
     ensures all { result ≡ block_room chain frames }
     ensures told { room_told result ≡ block_room_told chain frames }
 {
     let own = chain.format;
     if !questions::head_legal(own, chain.count) {
-        return Room::Refused(Error::InvalidFormat);
+        return Err(Error::InvalidFormat);
     }
     let size = asked_bytes(own, frames);
     of_block(own, size, walked(chain, Question::Block, size))
 }
 
 // What a finish will bring.
-pub fn finish_room(chain: Pipeline) -> Room
+pub fn finish_room(chain: Pipeline) -> Result<Room, Error>
     ensures all { result ≡ finish_room chain }
     ensures told { room_told result ≡ finish_room_told chain }
 {
     if !questions::head_legal(chain.format, chain.count) {
-        return Room::Refused(Error::InvalidFormat);
+        return Err(Error::InvalidFormat);
     }
     of_finish(walked(chain, Question::Finish, 0))
 }

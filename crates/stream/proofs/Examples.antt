@@ -1,5 +1,5 @@
 -- Document 01's example (f) by calls on the chain of its recipe's bytes, with a refused block, a reset and finishes among them. Assumes nothing.
-use Rattle.std.specs.Prelude.{◌≡◌, refl, List, [], ◌∷◌, ◌++◌, map, ℕ, pos, Ok, Result}
+use Rattle.std.specs.Prelude.{◌≡◌, refl, List, [], ◌∷◌, ◌++◌, map, ℕ, pos, Ok, Result, Err}
 use Rattle.std.proofs.Common.{ap, ◌∙◌}
 use Rattle.pcm.specs.declared.PcmFormat.{PcmFormat}
 use Rattle.pcm.specs.declared.Error.TheVariants.{BufferTooSmall, InvalidGeometry, TooLong}
@@ -28,7 +28,6 @@ use Rattle.ending.specs.StageEnd.{stage_end, frames_at_end}
 use Rattle.finish.specs.FinishCall as finishing
 use Rattle.finish.specs.FinishCall.{chain_end, room_at_end, end_verdict, finish_verdict, ended_halves, finish_call}
 use Rattle.questions.specs.Walk.{block_frames, size_verdict, larger, due_of, first_short, room_of, further, stepped, begun, walked}
-use Rattle.room.specs.declared.Room.TheVariants as room
 use Rattle.room.specs.Room.{found, block_room, finish_room}
 use Rattle.stream.specs.Calls.{Call, block, reset, finish, call_output, finish_output}
 use Rattle.stream.specs.Opened.{kinds_in}
@@ -101,8 +100,8 @@ end_f = (
 
 -- ---- the room known beforehand (document 02, Q-5): three frames bring four and want 14 bytes in each half; one brings nothing yet and wants 6;
 -- of none and of 8,193 nothing is told; then the finish brings one frame and wants 2
-room_f : (block_room opened 3 ≡ room.Known 4 14) × (block_room opened 1 ≡ room.Known 0 6) × (block_room opened 0 ≡ room.Refused InvalidGeometry) × (block_room opened 8193 ≡ room.Refused TooLong)
-    × (finish_room opened ≡ room.Known 0 0) × (finish_room (waiting opened) ≡ room.Known 1 2)
+room_f : (block_room opened 3 ≡ Ok (record { frames = 4; half = 14 })) × (block_room opened 1 ≡ Ok (record { frames = 0; half = 6 })) × (block_room opened 0 ≡ Err InvalidGeometry) × (block_room opened 8193 ≡ Err TooLong)
+    × (finish_room opened ≡ Ok (record { frames = 0; half = 0 })) × (finish_room (waiting opened) ≡ Ok (record { frames = 1; half = 2 }))
 unfolding block_room finish_room found walked stepped further begun block_frames size_verdict due_of room_of first_short larger end_count end_frame_count frames_at_end block_call block_verdict legal suited stage_suits rates_suit rates_allowed rate_allowed channels_allowed format_allowed rooms_verdict room_wanted frames_wanted frames_out resampled_count carried_count room_frames accepted passed written bytes_of frames_of sample_of low_of high_of format_leaving stage_out stage_next stage_clipped resampled state_after carried_outputs outputs_from carried_state among first_at output_at blend interpolated reduced gcd largest_divisor chain_of
 room_f = (
   ap (λ (c : Pipeline). block_room c 3) chain_f,

@@ -1,5 +1,7 @@
 -- Laws: what the walk finds on words, and the answers from it. Assumes nothing.
-use Rattle.std.specs.Prelude.{Ok}
+use Rattle.pcm.specs.declared.Error.{Error}
+use Rattle.room.specs.declared.Room.{Room}
+use Rattle.std.specs.Prelude.{Ok, Result}
 use mathlib.Core.Path.{◌≡◌, refl, sym, ap, ap₂, ◌∙◌}
 use mathlib.Core.Bool.{true}
 use mathlib.Core.List.{List}
@@ -14,7 +16,6 @@ use Rattle.questions.specs.declared.Question.TheVariants.{Block}
 use Rattle.questions.specs.declared.Walk.{Walk}
 use Rattle.questions.specs.Walk.{head_legal, begun, walked, sized_from}
 use Rattle.block.specs.laws.Asking.{Head, head_parts}
-use Rattle.room.specs.declared.Room.{Room}
 use Rattle.room.specs.Asked.{asked_bytes}
 use Rattle.room.specs.Room.{found, finish_found, room_answer, block_room, finish_room}
 use Rattle.room.specs.laws.Asked.{block_room_is, finish_room_is}
@@ -48,12 +49,12 @@ module _ (w : List ℕ) (h : legal_head w ≡ true) where
     pub own_parts : Head own (chain_of_words w).count
     own_parts = head_parts own (chain_of_words w).count (ap (λ (f : PcmFormat). head_legal f (chain_of_words w).count) same ∙ head_of)
 
-    pub block_at : (n size : ℕ) (walk : Walk) (r : Room) → size ≡ asked_bytes own n → walk ≡ found Block (chain_of_words w) size → r ≡ room_answer (sized_from own size walk) walk
+    pub block_at : (n size : ℕ) (walk : Walk) (r : (Result Room Error)) → size ≡ asked_bytes own n → walk ≡ found Block (chain_of_words w) size → r ≡ room_answer (sized_from own size walk) walk
         → r ≡ block_room (chain_of_words w) n
     block_at n size walk r s e k =
         k ∙ ap (λ (x : Walk). room_answer (sized_from own size x) x) e
         ∙ ap₂ (λ (f : PcmFormat) (m : ℕ). room_answer (sized_from f m (found Block (chain_of_words w) m)) (found Block (chain_of_words w) m)) same (s ∙ ap (λ (f : PcmFormat). asked_bytes f n) same)
         ∙ block_room_is (chain_of_words w) head_of n (head_parts (chain_of_words w).format (chain_of_words w).count head_of).channels.0
 
-  pub finish_at : (walk : Walk) (r : Room) → walk ≡ finish_found (chain_of_words w) → r ≡ room_answer (ask walk.legal InvalidFormat (Ok tt)) walk → r ≡ finish_room (chain_of_words w)
+  pub finish_at : (walk : Walk) (r : (Result Room Error)) → walk ≡ finish_found (chain_of_words w) → r ≡ room_answer (ask walk.legal InvalidFormat (Ok tt)) walk → r ≡ finish_room (chain_of_words w)
   finish_at walk r e k = k ∙ ap (λ (x : Walk). room_answer (ask x.legal InvalidFormat (Ok tt)) x) e ∙ finish_room_is (chain_of_words w) head_of

@@ -22,11 +22,11 @@ fn walked(words: &[u32], question: Question, size: usize) -> Walk
 }
 
 // What a block of so many frames will bring, whatever its bytes.
-pub fn block_room(words: &[u32], frames: usize) -> Room
+pub fn block_room(words: &[u32], frames: usize) -> Result<Room, Error>
     ensures { result ≡ block_room (chain_of_words words.now) frames }
 {
     if !word_block::legal_head(words) {
-        return Room::Refused(Error::InvalidFormat);
+        return Err(Error::InvalidFormat);
     }
     let own = chain_words::format_of(words);
     let size = room::asked_bytes(own, frames);
@@ -34,11 +34,11 @@ pub fn block_room(words: &[u32], frames: usize) -> Room
 }
 
 // What a finish will bring.
-pub fn finish_room(words: &[u32]) -> Room
+pub fn finish_room(words: &[u32]) -> Result<Room, Error>
     ensures { result ≡ finish_room (chain_of_words words.now) }
 {
     if !word_block::legal_head(words) {
-        return Room::Refused(Error::InvalidFormat);
+        return Err(Error::InvalidFormat);
     }
     room::of_finish(walked(words, Question::Finish, 0))
 }

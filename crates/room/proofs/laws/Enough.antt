@@ -22,7 +22,7 @@ use Rattle.block.specs.laws.Walking.{short_verdict, begins, walked_legal, verdic
 use Rattle.finish.specs.FinishCall.{finish_verdict}
 use Rattle.finish.specs.Turns.{end_from}
 use Rattle.finish.specs.laws.Stepping.{end_is}
-use Rattle.room.specs.declared.Room.TheVariants as room
+use Rattle.room.specs.declared.Room.{Room}
 use Rattle.room.specs.Room.{found, room_answer}
 use Rattle.room.specs.Beforehand.{TooSmall, Smallest}
 
@@ -56,8 +56,10 @@ module _ (verdict : ℕ → Verdict) (walk : ℕ → Walk) (half : ℕ)
   }
 
 -- ---- what an answer says
-pub known_parts : (v : Verdict) (w : Walk) (frames half : ℕ) → room_answer v w ≡ room.Known frames half → (v ≡ Ok tt) × ((w.frames ≡ frames) × (w.largest ≡ half))
-known_parts (Ok _) w frames half e = (refl, (cc, cc))
+pub known_parts : (v : Verdict) (w : Walk) (frames half : ℕ) → room_answer v w ≡ Ok (record { frames = frames; half = half }) → (v ≡ Ok tt) × ((w.frames ≡ frames) × (w.largest ≡ half))
+known_parts (Ok _) w frames half e =
+    let k : ◌≡◌ {A = Room} (record { frames = w.frames; half = w.largest }) (record { frames = frames; half = half }) = cc in
+    (refl, (ap (λ (r : Room). r.frames) k, ap (λ (r : Room). r.half) k))
 known_parts (Err x) w frames half e = (cc, (cc, cc))
 
 same_formats : (f : PcmFormat) → same_format f f ≡ true

@@ -28,7 +28,6 @@ use Rattle.block.specs.laws.Walking.{begins, frames_are}
 use Rattle.finish.specs.FinishCall.{FinishResult, chain_end, finish_verdict, finish_bytes, finish_clipped, finished, finish_concluded, finish_call}
 use Rattle.finish.specs.laws.Beforehand.{frames_ending}
 use Rattle.finish.specs.laws.Stepping.{start_frames}
-use Rattle.room.specs.declared.Room.TheVariants as room
 use Rattle.room.specs.Beforehand.{Smallest, BlockKnown, FinishKnown, Sounding, frame_bytes, leaving_bytes}
 use Rattle.room.specs.Room.{found, block_found, finish_found, frames_verdict, block_asked, finish_asked, room_answer, block_room, finish_room}
 use Rattle.room.specs.laws.Asked.{size_frames}
@@ -50,7 +49,7 @@ both_of m a b h k = go (leb (length a) (length b))
     go false = k
 
 -- ---- what is known of a block
-module _ (c : Pipeline) (sound : Sounding c) (n frames half : ℕ) (known : block_room c n ≡ room.Known frames half) where
+module _ (c : Pipeline) (sound : Sounding c) (n frames half : ℕ) (known : block_room c n ≡ Ok (record { frames = frames; half = half })) where
   parts : (block_asked c n ≡ Ok tt) × (((block_found c n).frames ≡ frames) × ((block_found c n).largest ≡ half))
   unfolding block_room
   parts = known_parts (block_asked c n) (block_found c n) frames half known
@@ -96,7 +95,7 @@ module _ (c : Pipeline) (sound : Sounding c) (n frames half : ℕ) (known : bloc
   }
 
 -- ---- and of a finish
-module _ (c : Pipeline) (sound : Sounding c) (frames half : ℕ) (known : finish_room c ≡ room.Known frames half) where
+module _ (c : Pipeline) (sound : Sounding c) (frames half : ℕ) (known : finish_room c ≡ Ok (record { frames = frames; half = half })) where
   finish_parts : (finish_asked c ≡ Ok tt) × (((finish_found c).frames ≡ frames) × ((finish_found c).largest ≡ half))
   unfolding finish_room
   finish_parts = known_parts (finish_asked c) (finish_found c) frames half known
@@ -138,12 +137,12 @@ then_refused true true next e h = cc
 then_refused true false next e h = h
 then_refused false u next e h = h
 
-answer_refused : (v : Verdict) (c : Pipeline) (n : ℕ) (e : Error) → room_answer v (block_found c n) ≡ room.Refused e → v ≡ Err e
+answer_refused : (v : Verdict) (c : Pipeline) (n : ℕ) (e : Error) → room_answer v (block_found c n) ≡ Err e → v ≡ Err e
 answer_refused (Ok _) c n e h = cc
 answer_refused (Err x) c n e h = let k : x ≡ e = cc in ap Err k
 
 -- whatever further questions follow those of the frames
-pub refused_then : (c : Pipeline) (n : ℕ) (e : Error) → block_room c n ≡ room.Refused e → (next : Verdict) → size_asked c (n * frame_bytes c) next ≡ Err e
+pub refused_then : (c : Pipeline) (n : ℕ) (e : Error) → block_room c n ≡ Err e → (next : Verdict) → size_asked c (n * frame_bytes c) next ≡ Err e
 unfolding block_room size_verdict
 refused_then c n e known next = go (legal c) refl (answer_refused (block_asked c n) c n e known)
   where
@@ -154,10 +153,10 @@ refused_then c n e known next = go (legal c) refl (answer_refused (block_asked c
 
 -- ---- what is not
 module _ (c : Pipeline) (lawful : legal c ≡ true) where
-  pub block_answered : (n : ℕ) → 0 < n → n ≤ 8192 → block_room c n ≡ room.Known (block_found c n).frames (block_found c n).largest
+  pub block_answered : (n : ℕ) → 0 < n → n ≤ 8192 → block_room c n ≡ Ok (record { frames = (block_found c n).frames; half = (block_found c n).largest })
   unfolding block_room
   block_answered n some most = rw (lawful, lt-ltb 0 n some, le-leb n 8192 most)
 
-  pub finish_answered : finish_room c ≡ room.Known (finish_found c).frames (finish_found c).largest
+  pub finish_answered : finish_room c ≡ Ok (record { frames = (finish_found c).frames; half = (finish_found c).largest })
   unfolding finish_room
   finish_answered = rw lawful

@@ -15,7 +15,6 @@ use Rattle.questions.specs.declared.Walk.{Walk}
 use Rattle.questions.specs.Walk.{head_legal, size_verdict, begun, sized_from}
 use Rattle.block.specs.BlockCall.{legal, suited}
 use Rattle.block.specs.laws.Walking.{begins, legal_is, walked_legal}
-use Rattle.room.specs.declared.Room.TheVariants as room
 use Rattle.room.specs.Asked.{asked_frames, asked_bytes}
 use Rattle.room.specs.Room.{found, finish_found, frames_verdict, block_asked, room_answer, block_room, finish_room}
 
@@ -92,10 +91,10 @@ module _ (c : Pipeline) (head : head_legal c.format c.count ≡ true) where
 
 -- a chain that no call returned
 module _ (c : Pipeline) (h : legal c ≡ false) where
-  pub block_room_refused : (n : ℕ) → room.Refused InvalidFormat ≡ block_room c n
+  pub block_room_refused : (n : ℕ) → Err InvalidFormat ≡ block_room c n
   unfolding block_room
   block_room_refused n = rw h
 
-  pub finish_room_refused : room.Refused InvalidFormat ≡ finish_room c
+  pub finish_room_refused : Err InvalidFormat ≡ finish_room c
   unfolding finish_room
   finish_room_refused = rw h

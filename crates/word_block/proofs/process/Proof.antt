@@ -18,7 +18,7 @@ module _ (c : tie.After-asked-verdict) where
   verdict : c.asked-verdict.result ≡ block_verdict (chain_of_words s.args.words.now) s.args.format (length s.args.sound.now) (shorter s.args.a.now s.args.b.now)
   verdict = c.asked-verdict.ensures ∙ ap (block_verdict (chain_of_words s.args.words.now) s.args.format (length s.args.sound.now)) c.shorter_of-shorter.ensures
 
-module _ (c : tie.In-Accepted) where
+module _ (c : tie.In-Ok) where
   abbrev k : tie.After-asked-verdict
   k = c.before
 
