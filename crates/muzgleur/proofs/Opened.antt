@@ -22,7 +22,8 @@ use Rattle.stage.specs.Stages.{stage_as_opened, format_after}
 use Rattle.opening.specs.Opening.{settings_allowed, stage_verdict, stage_kind_of}
 use Rattle.pipeline.specs.Opening.{Stages, opened, refused, asked, front, next_kind, open_records, open_stages, unused_stage, chain_of, opened_of, open_call}
 use Rattle.pipeline.proofs.laws.Opening.{stage_fits}
-use Rattle.pipeline.proofs.laws.RoundTrip.{opened_few}
+use Rattle.pipeline.specs.declared.Pipeline.{Pipeline}
+use Rattle.pipeline.proofs.laws.RoundTrip.{opened_few, opened_from}
 use Rattle.stage_words.specs.Storable.{HeldStage, SmallKind, Small}
 use Rattle.chain_words.specs.Layout.{words_of, chain_of_words}
 use Rattle.chain_words.specs.Storable.{Storable}
@@ -87,18 +88,13 @@ module _ (f : PcmFormat) (channels : f.channels < 65536) where
     small = all_append Small ss (replicate (8 - length ss) unused_stage) small (small_unused (8 - length ss));
   }
 
-  abbrev answer_of : Bool → Stages → Opened
-  answer_of b x = opened_of f (asked (ask b InvalidFormat (Ok tt)) x)
-
-  opened_storable : (bytes : List ℕ) → (open_call f bytes).verdict ≡ Ok tt → All HeldStage (open_call f bytes).chain.stages → Storable (open_call f bytes).chain
-  unfolding open_call
-  opened_storable bytes = by_format (format_allowed f) (open_stages 8 f bytes) refl
-    where
-      by_format : (b : Bool) (x : Stages) → open_stages 8 f bytes ≡ x → (answer_of b x).verdict ≡ Ok tt → All HeldStage (answer_of b x).chain.stages → Storable (answer_of b x).chain
-      by_format true (opened ss) q e held = chain_storable ss (opened_few 8 f bytes ss q) (small_opened 8 f bytes ss q) held
-      by_format true (refused r) q e held = chain_storable [] (omega arith) tt held
-      by_format false x q e held = chain_storable [] (omega arith) tt held
+  opened_storable : (bytes : List ℕ) (c : Pipeline) → open_call f bytes ≡ Ok c → All HeldStage c.stages → Storable c
+  opened_storable bytes c e held =
+      let o = opened_from f bytes c e in
+      let few = opened_few 8 f bytes o.stages o.opens in
+      let small = small_opened 8 f bytes o.stages o.opens in
+      rw o.chain_is (chain_storable o.stages few small (rw o.chain_is at held))
 
   -- after an opening the words stand for the chain opened
-  pub open_stands : (bytes w : List ℕ) → (open_call f bytes).verdict ≡ Ok tt → All HeldStage (open_call f bytes).chain.stages → chain_of_words (written (words_of (open_call f bytes).chain) w) ≡ (open_call f bytes).chain
-  open_stands bytes w e held = written_stands (open_call f bytes).chain (opened_storable bytes e held) w
+  pub open_stands : (bytes w : List ℕ) (c : Pipeline) → open_call f bytes ≡ Ok c → All HeldStage c.stages → chain_of_words (written (words_of c) w) ≡ c
+  open_stands bytes w c e held = written_stands c (opened_storable bytes c e held) w

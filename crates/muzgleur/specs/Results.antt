@@ -3,7 +3,7 @@ use Rattle.pcm.specs.declared.Error.{Error}
 use Rattle.std.specs.Prelude.{Bool, cond, List, ℕ, leb, length, Ok, Err, Result}
 use Rattle.pcm.specs.declared.PcmFormat.{PcmFormat}
 use Rattle.pcm.specs.Frames.{written}
-use Rattle.pcm.specs.Refusals.{refusal, Verdict}
+use Rattle.pcm.specs.Refusals.{refusal}
 use Rattle.pipeline.specs.declared.Pipeline.{Pipeline}
 use Rattle.answers.specs.declared.Told.{Told}
 use Rattle.block.specs.BlockCall.{BlockResult}
@@ -15,13 +15,13 @@ use Rattle.muzgleur.specs.declared.Format.{Format}
 use Rattle.muzgleur.specs.declared.ScratchResult.{ScratchResult}
 
 -- ---- opening: the chain to the front of the words; a refusal alters none
-abbrev pub opened_words : List ℕ → Verdict → Pipeline → Outcome
-opened_words w (Ok _) c = record { number = 0; words = written (words_of c) w }
-opened_words w (Err e) c = record { number = (refusal e).number; words = w }
+abbrev pub opened_words : List ℕ → Result Pipeline Error → Outcome
+opened_words w (Ok c) = record { number = 0; words = written (words_of c) w }
+opened_words w (Err e) = record { number = (refusal e).number; words = w }
 
 -- too few words are 1
-abbrev pub open_outcome : List ℕ → Opened → Outcome
-open_outcome w o = cond (leb 152 (length w)) (opened_words w o.verdict o.chain) (record { number = 1; words = w })
+abbrev pub open_outcome : List ℕ → Result Pipeline Error → Outcome
+open_outcome w o = cond (leb 152 (length w)) (opened_words w o) (record { number = 1; words = w })
 
 -- ---- a block
 -- the answer, the chain that the words stand for, and both halves afterwards

@@ -14,7 +14,7 @@ ghost use Rattle.word_finish.specs.Words.{reset_outcome, finish_outcome, finish_
 ghost use Rattle.muzgleur.specs.Results.{open_outcome, block_outcome, counter_result, format_result, scratch_result};
 
 use answers::{FinishTold, Told};
-use pcm::{PcmFormat};
+use pcm::{Error, PcmFormat};
 use pipeline::{Pipeline, WriteTold};
 use room::RoomTold;
 
@@ -41,19 +41,31 @@ pub struct ScratchResult {
     pub value: usize,
 }
 
+impl From<Result<usize, Error>> for ScratchResult {
+    ghost from_gives = { λ answer told. told ≡ scratch_result answer };
+
+    // Number and value of each case.
+    fn from(answer: Result<usize, Error>) -> ScratchResult {
+        match answer {
+            Ok(value) => ScratchResult { number: 0, value },
+            Err(e) => ScratchResult {
+                number: e.number(),
+                value: 0,
+            },
+        }
+    }
+}
+
 // The chain of a recipe at the front of the words. A refusal, too few words among them, alters none.
 pub fn muzgleur_open(rate: u32, channels: u16, recipe: &[u8], chain: &mut [u32]) -> u16
     ensures all { record { number = result; words = chain.new } ≡ open_outcome chain.old (open_call (record { rate = rate; channels = channels }) recipe.now) }
-    ensures chain { result ≡ 0 → chain_of_words chain.new ≡ (open_call (record { rate = rate; channels = channels }) recipe.now).chain }
+    ensures chain { result ≡ 0 → open_call (record { rate = rate; channels = channels }) recipe.now ≡ Ok (chain_of_words chain.new) }
 {
     if chain.len() < chain_words::CHAIN_WORDS {
         return 1;
     }
-    let opened = Pipeline::open(PcmFormat { rate, channels }, recipe);
-    let verdict = opened.verdict;
-    let made = opened.chain;
-    match verdict {
-        Ok(()) => {
+    match Pipeline::open(PcmFormat { rate, channels }, recipe) {
+        Ok(made) => {
             chain_words::put_chain(chain, made);
             0
         }
@@ -126,11 +138,7 @@ pub fn muzgleur_output_format(chain: &[u32]) -> Format
 pub fn muzgleur_scratch_bytes(chain: &[u32], size: usize) -> ScratchResult
     ensures { result ≡ scratch_result (scratch_bytes (chain_of_words chain.now) size) }
 {
-    let answer = word_block::scratch_bytes(chain, size);
-    ScratchResult {
-        number: answer.number(),
-        value: answer.value(),
-    }
+    ScratchResult::from(word_block::scratch_bytes(chain, size))
 }
 
 // What a block of so many frames in the chain's format will bring, whatever its bytes: the frames that leave the last stage, 0 where that
@@ -138,14 +146,14 @@ pub fn muzgleur_scratch_bytes(chain: &[u32], size: usize) -> ScratchResult
 pub fn muzgleur_block_room(chain: &[u32], frames: usize) -> RoomTold
     ensures { result ≡ room_told (block_room (chain_of_words chain.now) frames) }
 {
-    word_room::block_room(chain, frames).told()
+    RoomTold::from(word_room::block_room(chain, frames))
 }
 
 // The same of a finish; where nothing is due both are 0.
 pub fn muzgleur_finish_room(chain: &[u32]) -> RoomTold
     ensures { result ≡ room_told (finish_room (chain_of_words chain.now)) }
 {
-    word_room::finish_room(chain).told()
+    RoomTold::from(word_room::finish_room(chain))
 }
 
 // The recipe's bytes, without its notes, at the front of out; bytes past them stay.
@@ -153,5 +161,5 @@ pub fn muzgleur_write_recipe(chain: &[u32], out: &mut [u8]) -> WriteTold
     ensures { (result ≡ write_told (write_call (chain_of_words chain.now) out.old).answer) × (out.new ≡ (write_call (chain_of_words chain.now) out.old).out) }
 {
     let own = chain_words::chain_of(chain);
-    own.write_recipe(out).told()
+    WriteTold::from(own.write_recipe(out))
 }

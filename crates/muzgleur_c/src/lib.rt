@@ -22,7 +22,7 @@ use room::RoomTold;
 #[unsafe(no_mangle)]
 pub extern "C" fn muzgleur_open(rate: u32, channels: u16, recipe: &[u8], chain: &mut [u32]) -> u16
     ensures all { record { number = result; words = chain.new } ≡ open_outcome chain.old (open_call (record { rate = rate; channels = channels }) recipe.now) }
-    ensures chain { result ≡ 0 → chain_of_words chain.new ≡ (open_call (record { rate = rate; channels = channels }) recipe.now).chain }
+    ensures chain { result ≡ 0 → open_call (record { rate = rate; channels = channels }) recipe.now ≡ Ok (chain_of_words chain.new) }
 {
     muzgleur::muzgleur_open(rate, channels, recipe, chain)
 }
