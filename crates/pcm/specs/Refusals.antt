@@ -40,6 +40,11 @@ abbrev pub number_of : Verdict → ℕ
 number_of (Ok _) = 0
 number_of (Err e) = (refusal e).number
 
+-- what the questions came to of a call that answers this
+abbrev pub verdict_of : {A : Type 0} → Result A Error → Verdict
+verdict_of (Ok x) = Ok tt
+verdict_of (Err e) = Err e
+
 -- a value that only an accepted call gives, and what stands for it where the call is refused
 abbrev pub if_accepted : {A : Type 0} → Verdict → A → A → A
 if_accepted (Ok _) value none = value

@@ -49,20 +49,14 @@ recipe = 0x0A ∷ 0x00 ∷ 0x04 ∷ 0x00 ∷ 0x40 ∷ 0x1F ∷ 0x00 ∷ 0x00 ∷
 abbrev doubling : Pipeline
 doubling = chain_of mono8000 (stage_as_opened (kind.Resample (reduced 8000 16000)) ∷ [])
 
-opened_f : open_call mono8000 recipe ≡ record { verdict = Ok tt; chain = doubling }
+opened_f : open_call mono8000 recipe ≡ Ok doubling
 unfolding open_call open_stages open_records records_after record_verdict stage_verdict record_of rate_allowed channels_allowed format_allowed rates_allowed
 opened_f = refl
 
 -- with a note of two bytes before its stage, and one of none after it
-noted_f : open_call mono8000 (0x04 ∷ 0x00 ∷ 0x00 ∷ 0x80 ∷ 0x68 ∷ 0x69 ∷ recipe ++ (0x02 ∷ 0x00 ∷ 0xFF ∷ 0xFF ∷ [])) ≡ record { verdict = Ok tt; chain = doubling }
+noted_f : open_call mono8000 (0x04 ∷ 0x00 ∷ 0x00 ∷ 0x80 ∷ 0x68 ∷ 0x69 ∷ recipe ++ (0x02 ∷ 0x00 ∷ 0xFF ∷ 0xFF ∷ [])) ≡ Ok doubling
 unfolding open_call open_stages open_records records_after record_verdict stage_verdict record_of rate_allowed channels_allowed format_allowed rates_allowed
 noted_f = refl
-
-abbrev opened : Pipeline
-opened = (open_call mono8000 recipe).chain
-
-chain_f : opened ≡ doubling
-chain_f = ap (λ (x : Opened). x.chain) opened_f
 
 -- ---- cut after frame 0 the first call is 'nothing yet', and the second delivers 0, 50, 100, 75
 abbrev lent_half : List ℕ
@@ -71,12 +65,12 @@ lent_half = 7 ∷ 7 ∷ 7 ∷ 7 ∷ 7 ∷ 7 ∷ 7 ∷ 7 ∷ 7 ∷ 7 ∷ []
 abbrev played : Pipeline → List ℕ → BlockResult
 played c bytes = block_call c mono8000 0 bytes lent_half lent_half
 
-cut_f : ((played opened (0 ∷ 0 ∷ [])).answer ≡ NothingYet 0)
-    × (call_output (played (played opened (0 ∷ 0 ∷ [])).chain (100 ∷ 0 ∷ 50 ∷ 0 ∷ [])) ≡ 0 ∷ 0 ∷ 50 ∷ 0 ∷ 100 ∷ 0 ∷ 75 ∷ 0 ∷ [])
+cut_f : ((played doubling (0 ∷ 0 ∷ [])).answer ≡ NothingYet 0)
+    × (call_output (played (played doubling (0 ∷ 0 ∷ [])).chain (100 ∷ 0 ∷ 50 ∷ 0 ∷ [])) ≡ 0 ∷ 0 ∷ 50 ∷ 0 ∷ 100 ∷ 0 ∷ 75 ∷ 0 ∷ [])
 unfolding block_call block_verdict legal suited stage_suits rates_suit rates_allowed rate_allowed channels_allowed format_allowed rooms_verdict room_wanted frames_wanted frames_out resampled_count carried_count room_frames accepted passed written bytes_of frames_of sample_of low_of high_of format_leaving stage_out stage_next stage_clipped resampled state_after carried_outputs outputs_from carried_state among first_at output_at blend interpolated reduced gcd largest_divisor chain_of
 cut_f = (
-  ap (λ (c : Pipeline). (played c (0 ∷ 0 ∷ [])).answer) chain_f,
-  ap (λ (c : Pipeline). call_output (played (played c (0 ∷ 0 ∷ [])).chain (100 ∷ 0 ∷ 50 ∷ 0 ∷ []))) chain_f,
+  refl,
+  refl,
 )
 
 -- ---- a gain of 2 before it: of 20,000 one sample is clipped, and the call is 'nothing yet' all the same (document 02, Q-2)
@@ -91,25 +85,25 @@ clipped_first = refl
 abbrev waiting : Pipeline → Pipeline
 waiting c = (played (played c (0 ∷ 0 ∷ [])).chain (100 ∷ 0 ∷ 50 ∷ 0 ∷ [])).chain
 
-end_f : (finish_output (finish_call (waiting opened) lent_half lent_half) ≡ 50 ∷ 0 ∷ []) × ((finish_call (waiting opened) (7 ∷ []) lent_half).answer ≡ finished.Refused (BufferTooSmall 4))
+end_f : (finish_output (finish_call (waiting doubling) lent_half lent_half) ≡ 50 ∷ 0 ∷ []) × ((finish_call (waiting doubling) (7 ∷ []) lent_half).answer ≡ finished.Refused (BufferTooSmall 4))
 unfolding block_call block_verdict legal suited stage_suits rates_suit rates_allowed rate_allowed channels_allowed format_allowed rooms_verdict room_wanted frames_wanted frames_out resampled_count carried_count room_frames accepted passed written bytes_of frames_of sample_of low_of high_of format_leaving stage_out stage_next stage_clipped resampled state_after carried_outputs outputs_from carried_state among first_at output_at blend interpolated reduced gcd largest_divisor chain_of held_last resampler_end end_count end_frame_count stage_end frames_at_end chain_end room_at_end end_verdict finish_verdict ended_halves finishing.finished finish_call
 end_f = (
-  ap (λ (c : Pipeline). finish_output (finish_call (waiting c) lent_half lent_half)) chain_f,
-  ap (λ (c : Pipeline). (finish_call (waiting c) (7 ∷ []) lent_half).answer) chain_f,
+  refl,
+  refl,
 )
 
 -- ---- the room known beforehand (document 02, Q-5): three frames bring four and want 14 bytes in each half; one brings nothing yet and wants 6;
 -- of none and of 8,193 nothing is told; then the finish brings one frame and wants 2
-room_f : (block_room opened 3 ≡ Ok (record { frames = 4; half = 14 })) × (block_room opened 1 ≡ Ok (record { frames = 0; half = 6 })) × (block_room opened 0 ≡ Err InvalidGeometry) × (block_room opened 8193 ≡ Err TooLong)
-    × (finish_room opened ≡ Ok (record { frames = 0; half = 0 })) × (finish_room (waiting opened) ≡ Ok (record { frames = 1; half = 2 }))
+room_f : (block_room doubling 3 ≡ Ok (record { frames = 4; half = 14 })) × (block_room doubling 1 ≡ Ok (record { frames = 0; half = 6 })) × (block_room doubling 0 ≡ Err InvalidGeometry) × (block_room doubling 8193 ≡ Err TooLong)
+    × (finish_room doubling ≡ Ok (record { frames = 0; half = 0 })) × (finish_room (waiting doubling) ≡ Ok (record { frames = 1; half = 2 }))
 unfolding block_room finish_room found walked stepped further begun block_frames size_verdict due_of room_of first_short larger end_count end_frame_count frames_at_end block_call block_verdict legal suited stage_suits rates_suit rates_allowed rate_allowed channels_allowed format_allowed rooms_verdict room_wanted frames_wanted frames_out resampled_count carried_count room_frames accepted passed written bytes_of frames_of sample_of low_of high_of format_leaving stage_out stage_next stage_clipped resampled state_after carried_outputs outputs_from carried_state among first_at output_at blend interpolated reduced gcd largest_divisor chain_of
 room_f = (
-  ap (λ (c : Pipeline). block_room c 3) chain_f,
-  ap (λ (c : Pipeline). block_room c 1) chain_f,
-  ap (λ (c : Pipeline). block_room c 0) chain_f,
-  ap (λ (c : Pipeline). block_room c 8193) chain_f,
-  ap finish_room chain_f,
-  ap (λ (c : Pipeline). finish_room (waiting c)) chain_f,
+  refl,
+  refl,
+  refl,
+  refl,
+  refl,
+  refl,
 )
 
 -- ---- `whole_stream` at work
@@ -123,41 +117,41 @@ calls = call (9 ∷ 0 ∷ 9 ∷ 0 ∷ []) ∷ reset ∷ call (0 ∷ 0 ∷ []) �
 abbrev frames : List Frame
 frames = map (λ (x : ℕ). pos x ∷ []) (0 ∷ 100 ∷ 50 ∷ [])
 
-stream_f : stream_of opened calls ≡ running frames
+stream_f : stream_of doubling calls ≡ running frames
 unfolding plain_verdict plain_room plain_stage resampled_whole whole_outputs output_at blend interpolated reduced gcd largest_divisor frames_wanted room_wanted room_frames frames_of sample_of rate_allowed channels_allowed format_allowed chain_of
-stream_f = ap (λ (c : Pipeline). stream_of c calls) chain_f
+stream_f = refl
 
-whole_f : WholeStream opened (running frames) (run_of opened calls)
-whole_f = rw stream_f at (whole_stream mono8000 recipe (ap (λ (x : Opened). x.verdict) opened_f) calls (all_lent_lem calls refl))
+whole_f : WholeStream doubling (running frames) (run_of doubling calls)
+whole_f = rw stream_f at (whole_stream mono8000 recipe doubling opened_f calls (all_lent_lem calls refl))
 
 -- 0, 50, 100, 75
-plain_f : bytes_of (plain_out (kinds_in opened) frames) ≡ 0 ∷ 0 ∷ 50 ∷ 0 ∷ 100 ∷ 0 ∷ 75 ∷ 0 ∷ []
+plain_f : bytes_of (plain_out (kinds_in doubling) frames) ≡ 0 ∷ 0 ∷ 50 ∷ 0 ∷ 100 ∷ 0 ∷ 75 ∷ 0 ∷ []
 unfolding through plain_stage resampled_whole whole_outputs output_at blend interpolated reduced gcd largest_divisor bytes_of low_of high_of chain_of
-plain_f = ap (λ (c : Pipeline). bytes_of (plain_out (kinds_in c) frames)) chain_f
+plain_f = refl
 
-output_f : (run_of opened calls).joined ≡ 0 ∷ 0 ∷ 50 ∷ 0 ∷ 100 ∷ 0 ∷ 75 ∷ 0 ∷ []
+output_f : (run_of doubling calls).joined ≡ 0 ∷ 0 ∷ 50 ∷ 0 ∷ 100 ∷ 0 ∷ 75 ∷ 0 ∷ []
 output_f = whole_f.compared.output ∙ plain_f
 
 -- a refused finish, and one that ends the stream
 abbrev finished_calls : List Call
 finished_calls = calls ++ (finish (7 ∷ []) lent_half ∷ finish lent_half lent_half ∷ [])
 
-stream_ended_f : stream_of opened finished_calls ≡ ended frames
+stream_ended_f : stream_of doubling finished_calls ≡ ended frames
 unfolding plain_verdict plain_room plain_stage plain_last plain_ended plain_end_room on_last whole_last resampled_whole whole_outputs output_at blend interpolated reduced gcd largest_divisor frames_wanted room_wanted room_frames frames_of sample_of rate_allowed channels_allowed format_allowed chain_of
-stream_ended_f = ap (λ (c : Pipeline). stream_of c finished_calls) chain_f
+stream_ended_f = refl
 
-whole_ended_f : WholeStream opened (ended frames) (run_of opened finished_calls)
-whole_ended_f = rw stream_ended_f at (whole_stream mono8000 recipe (ap (λ (x : Opened). x.verdict) opened_f) finished_calls (all_lent_lem finished_calls refl))
+whole_ended_f : WholeStream doubling (ended frames) (run_of doubling finished_calls)
+whole_ended_f = rw stream_ended_f at (whole_stream mono8000 recipe doubling opened_f finished_calls (all_lent_lem finished_calls refl))
 
 -- 0, 50, 100, 75, 50
-plain_ended_f : bytes_of (plain_end (kinds_in opened) frames) ≡ 0 ∷ 0 ∷ 50 ∷ 0 ∷ 100 ∷ 0 ∷ 75 ∷ 0 ∷ 50 ∷ 0 ∷ []
+plain_ended_f : bytes_of (plain_end (kinds_in doubling) frames) ≡ 0 ∷ 0 ∷ 50 ∷ 0 ∷ 100 ∷ 0 ∷ 75 ∷ 0 ∷ 50 ∷ 0 ∷ []
 unfolding through plain_stage plain_last plain_ended on_last whole_last resampled_whole whole_outputs output_at blend interpolated reduced gcd largest_divisor bytes_of low_of high_of chain_of
-plain_ended_f = ap (λ (c : Pipeline). bytes_of (plain_end (kinds_in c) frames)) chain_f
+plain_ended_f = refl
 
-output_ended_f : (run_of opened finished_calls).joined ≡ 0 ∷ 0 ∷ 50 ∷ 0 ∷ 100 ∷ 0 ∷ 75 ∷ 0 ∷ 50 ∷ 0 ∷ []
+output_ended_f : (run_of doubling finished_calls).joined ≡ 0 ∷ 0 ∷ 50 ∷ 0 ∷ 100 ∷ 0 ∷ 75 ∷ 0 ∷ 50 ∷ 0 ∷ []
 output_ended_f = whole_ended_f.compared.output ∙ plain_ended_f
 
 -- a call after it begins a new stream
-stream_after_f : stream_of opened (finished_calls ++ (call (9 ∷ 0 ∷ []) ∷ [])) ≡ running ((pos 9 ∷ []) ∷ [])
+stream_after_f : stream_of doubling (finished_calls ++ (call (9 ∷ 0 ∷ []) ∷ [])) ≡ running ((pos 9 ∷ []) ∷ [])
 unfolding plain_verdict plain_room plain_stage plain_last plain_ended plain_end_room on_last whole_last resampled_whole whole_outputs output_at blend interpolated reduced gcd largest_divisor frames_wanted room_wanted room_frames frames_of sample_of rate_allowed channels_allowed format_allowed chain_of
-stream_after_f = ap (λ (c : Pipeline). stream_of c (finished_calls ++ (call (9 ∷ 0 ∷ []) ∷ []))) chain_f
+stream_after_f = refl

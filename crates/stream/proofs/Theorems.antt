@@ -45,57 +45,50 @@ use Rattle.stream.specs.PlainChain.{plain_stage, received_by, delivered_by}
 use Rattle.stream.proofs.laws.PlainChain.{through_stage}
 use Rattle.stream.specs.PlainEnd.{plain_ended, received_at_end, delivered_at_end}
 
-pub opened_chain : (f : PcmFormat) (recipe : List ℕ) → (open_call f recipe).verdict ≡ Ok tt → FreshlyOpened (open_call f recipe).chain
+pub opened_chain : (f : PcmFormat) (recipe : List ℕ) (o : Pipeline) → open_call f recipe ≡ Ok o → FreshlyOpened o
 unfolding open_call
-opened_chain f recipe h = go (format_allowed f) refl h
+opened_chain f recipe o h = go (format_allowed f) refl h
   where
-    go : (t : Bool) → format_allowed f ≡ t → (opened_of f (asked (ask t InvalidFormat (Ok tt)) (open_stages 8 f recipe))).verdict ≡ Ok tt
-        → FreshlyOpened (opened_of f (asked (ask t InvalidFormat (Ok tt)) (open_stages 8 f recipe))).chain
-    go true e h = stages_chain f e (open_stages 8 f recipe) (stages_opened 8 f recipe) h
+    go : (t : Bool) → format_allowed f ≡ t → opened_of f (asked (ask t InvalidFormat (Ok tt)) (open_stages 8 f recipe)) ≡ Ok o → FreshlyOpened o
+    go true e h = stages_chain f e (open_stages 8 f recipe) (stages_opened 8 f recipe) o h
     go false e h = zero_not_one (cc)
 
 -- a chain that opening accepted is one that the block call takes
-pub opened_is_legal : (f : PcmFormat) (recipe : List ℕ) → (open_call f recipe).verdict ≡ Ok tt → legal (open_call f recipe).chain ≡ true
-opened_is_legal f recipe h = (opened_chain f recipe h).lawful
+pub opened_is_legal : (f : PcmFormat) (recipe : List ℕ) (o : Pipeline) → open_call f recipe ≡ Ok o → legal o ≡ true
+opened_is_legal f recipe o h = (opened_chain f recipe o h).lawful
 
 -- whatever the format and the recipe that opening accepts, the block, reset and finish calls, and the blocks and halves that they bring
-pub whole_stream : (f : PcmFormat) (recipe : List ℕ) → (open_call f recipe).verdict ≡ Ok tt → (calls : List Call) → All Lent calls
-    → WholeStream (open_call f recipe).chain (stream_of (open_call f recipe).chain calls) (run_of (open_call f recipe).chain calls)
-whole_stream f recipe h calls lent = whole_stream_of (open_call f recipe).chain (opened_chain f recipe h) calls lent
+pub whole_stream : (f : PcmFormat) (recipe : List ℕ) (o : Pipeline) → open_call f recipe ≡ Ok o → (calls : List Call) → All Lent calls
+    → WholeStream o (stream_of o calls) (run_of o calls)
+whole_stream f recipe o h calls lent = whole_stream_of o (opened_chain f recipe o h) calls lent
 
-module _ (f : PcmFormat) (recipe : List ℕ) (h : (open_call f recipe).verdict ≡ Ok tt) (calls : List Call) (lent : All Lent calls) where
-  -- the chain as opened, and as the calls left it
-  abbrev o : Pipeline
-  o = (open_call f recipe).chain
-
+module _ (f : PcmFormat) (recipe : List ℕ) (o : Pipeline) (h : open_call f recipe ≡ Ok o) (calls : List Call) (lent : All Lent calls) where
+  -- the chain as the calls left it
   abbrev c : Pipeline
   c = (run_of o calls).chain
 
   whole : WholeStream o (stream_of o calls) (run_of o calls)
-  whole = whole_stream f recipe h calls lent
+  whole = whole_stream f recipe o h calls lent
 
   -- the chain as the next call finds it
   next_call : Since o (fed (stream_of o calls)) (within (stream_of o calls) (run_of o calls))
-  next_call = stands_within o (opened_chain f recipe h) (stream_of o calls) (run_of o calls) (after_all o (opened_chain f recipe h) calls lent)
+  next_call = stands_within o (opened_chain f recipe o h) (stream_of o calls) (run_of o calls) (after_all o (opened_chain f recipe o h) calls lent)
 
   kinds_kept : kinds_in c ≡ kinds_in o
-  kinds_kept = ap kinds_of (state_plain o (opened_chain f recipe h) next_call) ∙ kinds_of_state (kinds_in o) (fed (stream_of o calls))
+  kinds_kept = ap kinds_of (state_plain o (opened_chain f recipe o h) next_call) ∙ kinds_of_state (kinds_in o) (fed (stream_of o calls))
 
   few : c.count ≤ 8
-  few = omega (arith, whole.count, (legal_parts o (opened_chain f recipe h).lawful).few)
+  few = omega (arith, whole.count, (legal_parts o (opened_chain f recipe o h).lawful).few)
 
   -- and stays one, whatever the calls
   pub still_legal : legal c ≡ true
-  still_legal = legal_since o (opened_chain f recipe h) next_call
-
-  as_answered : open_call f recipe ≡ Ok o
-  as_answered = ap (λ v. let r : Opened = record { verdict = v; chain = o } in r) h
+  still_legal = legal_since o (opened_chain f recipe o h) next_call
 
   -- a chain writes itself back to the bytes it was opened from, without their notes; needed is the bytes so written
   pub writes_back : Bytes recipe → (out : List ℕ) → write_call c out ≡ write_outcome (room_verdict (length (without_notes recipe)) (length out)) (without_notes recipe) out
   unfolding write_call write_verdict
   writes_back b out =
-      let kept : recipe_of (stages_of c) ≡ without_notes recipe = recipe_of_kinds (stages_of c) (stages_of o) kinds_kept ∙ recipe_kept f recipe o as_answered b in
+      let kept : recipe_of (stages_of c) ≡ without_notes recipe = recipe_of_kinds (stages_of c) (stages_of o) kinds_kept ∙ recipe_kept f recipe o h b in
       rw (le-leb c.count 8 few, kept)
 
   -- and to those very bytes where they hold none
@@ -113,32 +106,32 @@ module _ (f : PcmFormat) (recipe : List ℕ) (h : (open_call f recipe).verdict �
   pub nothing_to_finish : fed (stream_of o calls) ≡ [] → (a b : List ℕ) → finish_call c a b ≡ record { chain = c; answer = finish.NothingYet 0; a = a; b = b }
   nothing_to_finish e a b =
       let s : stages_of c ≡ stages_of o = next_call.moved.stages ∙ ap (chain_next (stages_of o)) e ∙ chain_next-nil (stages_of o) in
-      nothing_due c still_legal (s ∙ (opened_chain f recipe h).silent ∙ ap (map stage_clear) (sym s)) a b
+      nothing_due c still_legal (s ∙ (opened_chain f recipe o h).silent ∙ ap (map stage_clear) (sym s)) a b
 
   -- the room known beforehand: `block_room` refuses no count of 1 to 8,192 frames, and what it answers is what the next block then does
   pub block_still_beforehand : (n : ℕ) → 0 < n → n ≤ 8192 → BlockBeforehand c n
-  block_still_beforehand = block_beforehand c (sounding o (opened_chain f recipe h) next_call) still_legal
+  block_still_beforehand = block_beforehand c (sounding o (opened_chain f recipe o h) next_call) still_legal
 
   -- `finish_room` refuses nothing, and what it answers is what the next finish then does
   pub finish_still_beforehand : FinishBeforehand c
-  finish_still_beforehand = finish_beforehand c (sounding o (opened_chain f recipe h) next_call) still_legal
+  finish_still_beforehand = finish_beforehand c (sounding o (opened_chain f recipe o h) next_call) still_legal
 
 -- `blocks` grows with each accepted block; reset and finish clear sound state, not counters
-pub blocks_counted : (f : PcmFormat) (recipe : List ℕ) → (open_call f recipe).verdict ≡ Ok tt → (calls : List Call) → All Lent calls
-    → (run_of (open_call f recipe).chain calls).chain.blocks ≡ held_count (accepted_blocks (open_call f recipe).chain calls)
+pub blocks_counted : (f : PcmFormat) (recipe : List ℕ) (o : Pipeline) → open_call f recipe ≡ Ok o → (calls : List Call) → All Lent calls
+    → (run_of o calls).chain.blocks ≡ held_count (accepted_blocks o calls)
 unfolding held_count
-blocks_counted f recipe h calls lent =
-    let w : FreshlyOpened (open_call f recipe).chain = opened_chain f recipe h in
-    counted_calls (open_call f recipe).chain w (running []) (fresh (open_call f recipe).chain) calls 0 (begun (open_call f recipe).chain w.places) lent (open_counters f recipe).0
-    ∙ ap held_count (zero-add (accepted_blocks (open_call f recipe).chain calls))
+blocks_counted f recipe o h calls lent =
+    let w : FreshlyOpened o = opened_chain f recipe o h in
+    counted_calls o w (running []) (fresh o) calls 0 (begun o w.places) lent (open_counters f recipe o h).0
+    ∙ ap held_count (zero-add (accepted_blocks o calls))
 
 -- `empty_blocks` grows with each block that answers 'nothing yet'
-pub empty_blocks_counted : (f : PcmFormat) (recipe : List ℕ) (calls : List Call)
-    → (run_of (open_call f recipe).chain calls).chain.empty_blocks ≡ held_count (nothing_from (fresh (open_call f recipe).chain) calls)
+pub empty_blocks_counted : (f : PcmFormat) (recipe : List ℕ) (o : Pipeline) → open_call f recipe ≡ Ok o → (calls : List Call)
+    → (run_of o calls).chain.empty_blocks ≡ held_count (nothing_from (fresh o) calls)
 unfolding held_count
-empty_blocks_counted f recipe calls =
-    let r : Run = fresh (open_call f recipe).chain in
-    nothing_calls (open_call f recipe).chain (running []) r r calls 0 refl (open_counters f recipe).1 ∙ ap held_count (zero-add (nothing_from r calls))
+empty_blocks_counted f recipe o h calls =
+    let r : Run = fresh o in
+    nothing_calls o (running []) r r calls 0 refl (open_counters f recipe o h).1 ∙ ap held_count (zero-add (nothing_from r calls))
 
 -- ---- the stage with i stages before it delivers what its definition makes of what it has received
 module _ (i : ℕ) (ks : List StageKind) (k : StageKind) (rest : List StageKind) (X : List Frame) (e : drop i ks ≡ k ∷ rest) where

@@ -104,11 +104,11 @@ unknown_stage f = refl
 
 -- (k) 06 00 01 00 00 40 00 00 is gain 16,384
 k : (f : PcmFormat) → format_allowed f ≡ true
-    → open_call f (0x06 ∷ 0x00 ∷ 0x01 ∷ 0x00 ∷ 0x00 ∷ 0x40 ∷ 0x00 ∷ 0x00 ∷ []) ≡ record { verdict = Ok tt; chain = chain_of f (stage_as_opened (kind.Gain (record { q15 = pos 16384 })) ∷ []) }
+    → open_call f (0x06 ∷ 0x00 ∷ 0x01 ∷ 0x00 ∷ 0x00 ∷ 0x40 ∷ 0x00 ∷ 0x00 ∷ []) ≡ Ok (chain_of f (stage_as_opened (kind.Gain (record { q15 = pos 16384 })) ∷ []))
 unfolding open_call
 k f h = rw (h, gain_stages f)
 
 -- (l) 02 00 FF 00: 6
-l : (f : PcmFormat) → format_allowed f ≡ true → number_of (open_call f (0x02 ∷ 0x00 ∷ 0xff ∷ 0x00 ∷ [])).verdict ≡ 6
+l : (f : PcmFormat) → format_allowed f ≡ true → number_of (verdict_of (open_call f (0x02 ∷ 0x00 ∷ 0xff ∷ 0x00 ∷ []))) ≡ 6
 unfolding open_call
 l f h = rw (h, unknown_stage f)

@@ -115,11 +115,14 @@ module _ (o : Pipeline) (opened : FreshlyOpened o) where
       ∙ ap held_count m
 
 -- ---- any calls on a chain that opening returned
-opened_counters : (f : PcmFormat) (s : Stages) → ((opened_of f s).chain.blocks ≡ 0) × ((opened_of f s).chain.empty_blocks ≡ 0)
+as_opened : (f : PcmFormat) (ss : List Stage) → ((chain_of f ss).blocks ≡ 0) × ((chain_of f ss).empty_blocks ≡ 0)
 unfolding chain_of
-opened_counters f (opened ss) = (refl, refl)
-opened_counters f (refused e) = (refl, refl)
+as_opened f ss = (refl, refl)
 
-pub open_counters : (f : PcmFormat) (recipe : List ℕ) → ((open_call f recipe).chain.blocks ≡ 0) × ((open_call f recipe).chain.empty_blocks ≡ 0)
+opened_counters : (f : PcmFormat) (s : Stages) (o : Pipeline) → opened_of f s ≡ Ok o → (o.blocks ≡ 0) × (o.empty_blocks ≡ 0)
+opened_counters f (opened ss) o h = let k : chain_of f ss ≡ o = cc in rw (← k) (as_opened f ss)
+opened_counters f (refused e) o h = (cc, cc)
+
+pub open_counters : (f : PcmFormat) (recipe : List ℕ) (o : Pipeline) → open_call f recipe ≡ Ok o → (o.blocks ≡ 0) × (o.empty_blocks ≡ 0)
 unfolding open_call
-open_counters f recipe = opened_counters f (asked (ask (format_allowed f) InvalidFormat (Ok tt)) (open_stages 8 f recipe))
+open_counters f recipe o h = opened_counters f (asked (ask (format_allowed f) InvalidFormat (Ok tt)) (open_stages 8 f recipe)) o h

@@ -126,6 +126,6 @@ module _ (f : PcmFormat) (allowed : format_allowed f ≡ true) where
       (opened_with f v.kinds (replicate (8 - length v.kinds) unused_stage) 0 0 (omega (arith, v.few, length-replicate (8 - length v.kinds) unused_stage)) allowed
       (sym (ap (suited f) v.stages) ∙ v.suit) v.rates)
 
-  pub stages_chain : (s : Stages) → UnlessRefused 8 f s → (opened_of f s).verdict ≡ Ok tt → FreshlyOpened (opened_of f s).chain
-  stages_chain (opened ss) v h = chain_opened ss v
-  stages_chain (refused e) v h = zero_not_one (cc)
+  pub stages_chain : (s : Stages) → UnlessRefused 8 f s → (o : Pipeline) → opened_of f s ≡ Ok o → FreshlyOpened o
+  stages_chain (opened ss) v o h = let k : chain_of f ss ≡ o = cc in subst FreshlyOpened k (chain_opened ss v)
+  stages_chain (refused e) v o h = zero_not_one (cc)
