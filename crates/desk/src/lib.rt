@@ -5,22 +5,18 @@ ghost use mathlib.Core.Path.{◌≡◌};
 ghost use Rattle.desk.specs.Desk.{desk_open};
 
 use pcm::{Error, PcmFormat};
-use pipeline::{Opened, Pipeline};
+use pipeline::Pipeline;
 
 // The bytes of a file that they take.
 pub const MAX_FILE: usize = 1048576;
 
 // The chain of a recipe that is within the limit.
-pub fn open(format: PcmFormat, recipe: &[u8]) -> Opened
+#[tactic(auto, unfolding(crate::specs::Desk::desk_open))]
+pub fn open(format: PcmFormat, recipe: &[u8]) -> Result<Pipeline, Error>
     ensures { result ≡ desk_open format recipe.now }
 {
-    let opened = Pipeline::open(format, recipe);
     if recipe.len() > MAX_FILE {
-        let chain = opened.chain;
-        return Opened {
-            verdict: Err(Error::TooLong),
-            chain,
-        };
+        return Err(Error::TooLong);
     }
-    opened
+    Pipeline::open(format, recipe)
 }

@@ -21,7 +21,7 @@ use cookbook::Coefficients;
 use dc_block::DcBlock;
 use filters::FilterMemory;
 use gain::Gain;
-use rates::{LinearResampler, NewResampler, ResamplerState};
+use rates::{LinearResampler, ResamplerState};
 
 // `number` is 0 or the refusal's, which has no rates.
 #[repr(C)]
@@ -36,14 +36,13 @@ pub struct RatesResult {
 pub extern "C" fn new_resampler(in_rate: u32, out_rate: u32) -> RatesResult
     ensures { result ≡ rates_result (new_told (resampler_of in_rate out_rate)) }
 {
-    let made = LinearResampler::new(in_rate, out_rate);
-    match made {
-        NewResampler::Made(r) => RatesResult {
+    match LinearResampler::new(in_rate, out_rate) {
+        Ok(r) => RatesResult {
             number: 0,
             in_r: r.in_r,
             out_r: r.out_r,
         },
-        NewResampler::Refused(e) => RatesResult {
+        Err(e) => RatesResult {
             number: e.number(),
             in_r: 0,
             out_r: 0,
@@ -80,7 +79,7 @@ pub extern "C" fn stereo_to_mono_block(input: &[u8], out: &mut [u8])
 pub extern "C" fn mix_block(a: &[u8], b: &[u8], out: &mut [u8]) -> usize
     ensures { (result ≡ (mix_told (mix_answer a.now b.now out.old)).clipped) × (out.new ≡ after_mix (mix_answer a.now b.now out.old) a.now b.now out.old) }
 {
-    channels::mix_i16(a, b, out).told().clipped
+    channels::mix_i16(a, b, out).unwrap_or(0)
 }
 
 // From a memory at rest.

@@ -11,7 +11,7 @@ use Rattle.note_lines.specs.Lines.{digit, lines_of}
 
 -- a recipe of up to 1,048,576 bytes? else 10, first. Then opening's questions
 unfoldable pub desk_verdict : PcmFormat → List ℕ → Verdict
-desk_verdict f recipe = ask (leb (length recipe) 1048576) TooLong (open_call f recipe).verdict
+desk_verdict f recipe = ask (leb (length recipe) 1048576) TooLong (verdict_of (open_call f recipe))
 
 -- a refusal's number, which is below 100, in decimal digits; a line feed
 unfoldable pub number_line : ℕ → List ℕ

@@ -1,10 +1,7 @@
 // A whole sound through a chain: by blocks of 1,024 frames, the last shorter, ended by the finish call, what comes out gathered (document 02, Q-7).
 #![tactic(auto)]
 
-ghost use mathlib.Core.Path.{◌≡◌};
-ghost use mathlib.Core.Bool.{true};
-ghost use Prim.Native.Nat.{◌≤◌, ◌<◌};
-ghost use lib.ListN.{length};
+ghost use Rattle.std.specs.Prelude.{◌≡◌, true, ◌≤◌, ◌<◌, length};
 ghost use Rattle.pcm.specs.Formats.{format_allowed};
 ghost use Rattle.rates.specs.Counting.{ceil_div};
 ghost use Rattle.playing.specs.Playing.{play_call};
@@ -20,13 +17,6 @@ pub struct Piece {
     pub verdict: Result<(), Error>,
     pub half: Half,
     pub len: usize,
-}
-
-// How many bytes are gathered, or why no more.
-#[derive(Clone, Copy)]
-pub enum Gathered {
-    Bytes(usize),
-    Refused(Error),
 }
 
 // How many blocks of `size` bytes, the last shorter, a sound of `len` bytes makes.
@@ -102,22 +92,22 @@ fn silent(verdict: Result<(), Error>) -> Piece
 }
 
 // A call's output behind the first n bytes of out. Where it was refused its number, and where its output passes what out holds 10.
-fn join<'a>(piece: Piece, a: &'a [u8], b: &'a [u8], n: usize, out: &mut [u8]) -> Gathered
+fn join<'a>(piece: Piece, a: &'a [u8], b: &'a [u8], n: usize, out: &mut [u8]) -> Result<usize, Error>
     requires { n ≤ length out.old }
     ensures { record { gathered = result; out = out.new } ≡ joined piece a.now b.now n out.old }
 {
     let verdict = piece.verdict;
     if let Err(e) = verdict {
-        return Gathered::Refused(e);
+        return Err(e);
     }
     let half = piece.half;
     let output = answers::output(a, b, half, piece.len);
     let size = output.len();
     if out.len() - n < size {
-        return Gathered::Refused(Error::TooLong);
+        return Err(Error::TooLong);
     }
     copying::copy_front(output, &mut out[n..]);
-    Gathered::Bytes(n + size)
+    Ok(n + size)
 }
 
 // The sound through the chain, what comes out at the front of out.
@@ -128,7 +118,7 @@ pub fn play(
     a: &mut [u8],
     b: &mut [u8],
     out: &mut [u8],
-) -> Gathered
+) -> Result<usize, Error>
     requires { format_allowed format ≡ true }
     ensures { record { gathered = result; a = a.new; b = b.new; out = out.new } ≡ play_call chain format sound.now a.old b.old out.old }
 {
@@ -145,7 +135,7 @@ pub fn play(
         let answer = done.answer;
         let piece = block_piece(answer);
         let gathered = join(piece, a, b, n, out);
-        let Gathered::Bytes(m) = gathered else {
+        let Ok(m) = gathered else {
             return gathered;
         };
         n = m;

@@ -18,7 +18,7 @@ use Rattle.rates.specs.Rates.{opened_state, reduced}
 use Rattle.pcm.specs.declared.PcmFormat.{PcmFormat}
 use Rattle.pcm.specs.declared.Error.TheVariants.{UnknownStage}
 use Rattle.pcm.specs.Formats.{format_allowed}
-use Rattle.pcm.specs.Refusals.{number_of}
+use Rattle.pcm.specs.Refusals.{number_of, verdict_of}
 use Rattle.stage.specs.declared.StageKind.TheVariants as kind
 use Rattle.stage.specs.Stages.{stage_as_opened}
 use Rattle.recipe.specs.Records.{record_verdict, record_of, records_after}
