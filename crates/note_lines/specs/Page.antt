@@ -2,7 +2,7 @@
 use Rattle.std.specs.Prelude.{cond, List, [], ◌∷◌, ℕ, ◌/◌, ◌%◌, leb, ltb, length, Ok, Err}
 use Rattle.pcm.specs.declared.PcmFormat.{PcmFormat}
 use Rattle.pcm.specs.declared.Error.TheVariants.{TooLong}
-use Rattle.pcm.specs.Refusals.{ask, refusal, room_verdict, Verdict}
+use Rattle.pcm.specs.Refusals.{ask, refusal, room_verdict, verdict_of, Verdict}
 use Rattle.pipeline.specs.Opening.{open_call}
 use Rattle.pipeline.specs.declared.WriteTold.{WriteTold}
 use Rattle.pipeline.specs.WritingBack.{WriteOutcome, write_outcome, told_of_writing}

@@ -12,7 +12,7 @@ ghost use Rattle.note_lines.specs.laws.Lines.{line_if};
 ghost use Rattle.note_lines.specs.laws.Page.{Readable};
 
 use pcm::{Error, PcmFormat};
-use pipeline::{Pipeline, WriteAnswer};
+use pipeline::Pipeline;
 
 mod arguments;
 
@@ -124,8 +124,8 @@ fn desk_question(format: PcmFormat, recipe: &[u8]) -> Result<(), Error>
     if recipe.len() > MAX_RECIPE {
         return Err(Error::TooLong);
     }
-    let opened = Pipeline::open(format, recipe);
-    opened.verdict
+    Pipeline::open(format, recipe)?;
+    Ok(())
 }
 
 // How many bytes the line of a refusal's number has.
@@ -177,17 +177,14 @@ fn write_page(verdict: Result<(), Error>, recipe: &[u8], out: &mut [u8])
 
 // What the desk program prints, at the front of out: a line for each note of the recipe, or the number of the first refusal alone.
 // Rate and channels are arguments as they were typed. Twice the recipe's bytes, and at least three, are always room enough.
-pub fn page(rate: &[u8], channels: &[u8], recipe: &[u8], out: &mut [u8]) -> WriteAnswer
+pub fn page(rate: &[u8], channels: &[u8], recipe: &[u8], out: &mut [u8]) -> Result<usize, Error>
     ensures all { record { answer = result; out = out.new } ≡ page_call (page_of rate.now channels.now recipe.now) out.old }
     ensures told { write_told result ≡ page_told (page_of rate.now channels.now recipe.now) (length out.old) }
 {
     let format = arguments::format(rate, channels);
     let verdict = desk_question(format, recipe);
     let needed = page_size(verdict, recipe);
-    let room = pcm::require_room(out, needed);
-    if let Err(e) = room {
-        return WriteAnswer::Refused(e);
-    }
+    pcm::require_room(out, needed)?;
     write_page(verdict, recipe, out);
-    WriteAnswer::Written(needed)
+    Ok(needed)
 }

@@ -5,7 +5,6 @@ ghost use Rattle.std.specs.Prelude.{◌≡◌, ◌*◌, ◌≤◌, length, take}
 ghost use Rattle.io.specs.Counts.{IsPrefixLen};
 ghost use Rattle.note_lines.specs.Page.{page_of};
 
-use pipeline::WriteAnswer;
 use std::env::FillError;
 use std::io;
 use std::rt::{Env, Files};
@@ -16,11 +15,7 @@ fn fill_page(rate: &[u8], channels: &[u8], recipe: &[u8], out: &mut [u8]) -> usi
     ensures count { IsPrefixLen result out.new }
     ensures page { take result out.new ≡ page_of rate.now channels.now recipe.now }
 {
-    let answer = note_lines::page(rate, channels, recipe, out);
-    let WriteAnswer::Written(n) = answer else {
-        return 0;
-    };
-    n
+    note_lines::page(rate, channels, recipe, out).unwrap_or(0)
 }
 
 // Prints the page of the file that path names.

@@ -1,9 +1,11 @@
 -- Laws of the definitions in Page. Assumes nothing.
-use Rattle.std.specs.Prelude.{◌≡◌, Bool, true, false, cond, List, [], ◌∷◌, ℕ, ◌*◌, ◌/◌, ◌%◌, ◌≤◌, leb, ltb, length, Ok, Err}
+use Rattle.std.specs.Prelude.{◌≡◌, refl, Bool, true, false, cond, List, [], ◌∷◌, ℕ, ◌*◌, ◌/◌, ◌%◌, ◌≤◌, leb, ltb, length, Result, Ok, Err}
 use Rattle.std.proofs.Common.{ap, arith, leb-true}
 use Rattle.pcm.specs.declared.PcmFormat.{PcmFormat}
+use Rattle.pcm.specs.declared.Error.{Error}
 use Rattle.pcm.specs.declared.Error.TheVariants.{TooLong}
-use Rattle.pcm.specs.Refusals.{refusal, Verdict}
+use Rattle.pipeline.specs.declared.Pipeline.{Pipeline}
+use Rattle.pcm.specs.Refusals.{refusal, verdict_of, Verdict}
 use Rattle.pcm.specs.laws.Refusals.{ask_yes}
 use Rattle.recipe.specs.Records.{records, WholeRecords}
 use Rattle.pipeline.specs.Opening.{open_call}
@@ -17,14 +19,17 @@ abbrev pub Readable : Verdict → List ℕ → Type 0
 Readable (Ok _) recipe = WholeRecords (records recipe) × (length recipe ≤ 1048576)
 Readable (Err e) recipe = Unit {0}
 
-accepted_whole : (f : PcmFormat) (recipe : List ℕ) → (open_call f recipe).verdict ≡ Ok tt → WholeRecords (records recipe)
-accepted_whole f recipe h =
-    opened_whole f recipe (open_call f recipe).chain (ap (λ (v : Verdict). let o : Opened = record { verdict = v; chain = (open_call f recipe).chain } in o) h)
+accepted_whole : (f : PcmFormat) (recipe : List ℕ) → verdict_of (open_call f recipe) ≡ Ok tt → WholeRecords (records recipe)
+accepted_whole f recipe h = go (open_call f recipe) refl h
+  where
+    go : (r : Result Pipeline Error) → open_call f recipe ≡ r → verdict_of r ≡ Ok tt → WholeRecords (records recipe)
+    go (Ok c) e h = opened_whole f recipe c e
+    go (Err x) e h = cc
 
 pub desk_readable : (f : PcmFormat) (recipe : List ℕ) (v : Verdict) → v ≡ desk_verdict f recipe → Readable v recipe
 unfolding desk_verdict
 desk_readable f recipe (Ok _) e =
-    let a = ask_yes (leb (length recipe) 1048576) TooLong (open_call f recipe).verdict (cc) in
+    let a = ask_yes (leb (length recipe) 1048576) TooLong (verdict_of (open_call f recipe)) (cc) in
     (accepted_whole f recipe a.1, leb-true (length recipe) 1048576 a.0)
 desk_readable f recipe (Err x) e = tt
 
