@@ -10,6 +10,7 @@ use Rattle.pcm.specs.Formats.{format_allowed}
 use Rattle.pcm.specs.Refusals.{ask, Verdict}
 use Rattle.pcm.specs.Samples.{All}
 use Rattle.pcm.specs.Frames.{Frame}
+use Rattle.stage.specs.declared.Stage.{Stage}
 use Rattle.pipeline.specs.declared.Pipeline.{Pipeline}
 use Rattle.pipeline.specs.Opening.{Stages, opened, refused, asked, open_stages, chain_of, opened_of, open_call}
 use Rattle.pipeline.specs.Reset.{reset_call}
