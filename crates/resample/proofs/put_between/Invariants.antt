@@ -7,4 +7,4 @@ use Rattle.resample.proofs.put_between.Given as goal
 
 abbrev pub invariant-loop-c : goal.invariant-loop-c
 invariant-loop-c g l =
-    l.out ≡ splice l.initial.out (l.k * (g.row.C * 2)) ((l.k * g.row.C + l.c) * 2) (bytes_of (frame_between l.c (l.last ∷ frames_of g.row.C l.input) l.g l.f ∷ []))
+    l.out ≡ splice l.initial.out (l.k * (g.row.C * 2)) ((l.k * g.row.C + l.c) * 2) (bytes_of (frame_between l.c (l.last ∷ frames_of g.row.C l.input) l.at.frame l.at.frac ∷ []))
