@@ -1,13 +1,13 @@
 -- The loop's progress, over the channel count: the outputs due, one at each position, and what each turn asks. Assumes nothing.
-use Rattle.std.specs.Prelude.{◌≡◌, refl, List, [], ◌∷◌, ◌++◌, ℕ, ◌+◌, ◌*◌, ◌/◌, ◌^◌, ◌≤◌, ◌<◌, length, get_or}
-use Rattle.std.proofs.Common.{sym, ap, ap₂, ◌∙◌, subst, zero-le, le_antisymm, div-lt_iff_lt-mul, le-div_iff_mul-le, div-le_self, arith, length-append}
+use Rattle.std.specs.Prelude.{◌≡◌, refl, List, [], ◌∷◌, ◌++◌, ℕ, ◌+◌, ◌*◌, ◌/◌, ◌≤◌, ◌<◌, length, get_or}
+use Rattle.std.proofs.Common.{sym, ap, ap₂, ◌∙◌, subst, zero-le, le_antisymm, div-lt_iff_lt-mul, le-div_iff_mul-le, arith, length-append}
 use Rattle.std.specs.List.{splice}
 use Rattle.pcm.specs.Frames.{Frame, frames_of, bytes_of, written}
 use Rattle.pcm.specs.laws.Frames.{length_frames, length_frame, length_bytes_sized, bytes-append, written-nil}
 use Rattle.rates.specs.Counting.{tabulate, count}
 use Rattle.rates.specs.laws.Counting.{length_tabulate, all_tabulate, count_before, count_after, count_least}
 use Rattle.resample.specs.Resample.{blend, output_at, outputs_from}
-use Rattle.resample.specs.Place.{Parts, At}
+use Rattle.resample.specs.Place.{At}
 use Rattle.resample.specs.Stage.{frame_between, Ready, Looped}
 use Rattle.resample.specs.declared.Position.{Position}
 use Rattle.resample.proofs.Place.{frame_is, frac_is}
@@ -83,11 +83,6 @@ module _ (ch i o num : ℕ) (x : Frame) (input out₀ : List ℕ) (r : Ready ch 
                 ∙ written_more (bytes_of (tabulate k F)) (bytes_of (F k ∷ [])) out₀ (k * (ch * 2)) ((k + 1) * (ch * 2)) a (omega (arith, a, b, ap length e ∙ length-append (bytes_of (tabulate k F)) (bytes_of (F k ∷ []))))
                 ∙ ap (λ (y : List ℕ). written y out₀) (sym e);
           }
-
-      pub advance_ready : (step : Position) → length input < 2 ^ 63 → At o i step → (Parts o p × Parts o step) × ((o ≤ 384000) × (p.frame + step.frame + 1 < 2 ^ 64))
-      advance_ready step h a =
-          let b : step.frame ≤ i = subst (λ (g : ℕ). g ≤ i) (frame_is o i step a) (div-le_self i o) in
-          ((s.place.parts, a.parts), (r.out_r.1, omega (arith, l, h, div-le_self (length input) (ch * 2), r.in_r.1, b)))
 
     -- all are written once the position lies past the block
     pub looped : length input / (ch * 2) ≤ p.frame → Looped i o num (outputs_from i o num (x ∷ frames_of ch input)) out₀ out (record { frames = k; at = p })

@@ -4,6 +4,9 @@ use Rattle.resample.specs.Value.{interpolated}
 use Rattle.resample.proofs.Interpolating.{steps}
 use Rattle.resample.proofs.interpolate.Goals as goal
 
+pub overflow_mul-result : goal.overflow_mul-result
+overflow_mul-result c = let s = steps c.args.a c.args.b c.args.f c.requires c.ranges.a c.ranges.b in grind (arith, to_z-of_z)
+
 pub overflow_add-result : goal.overflow_add-result
 overflow_add-result c = let s = steps c.args.a c.args.b c.args.f c.requires c.ranges.a c.ranges.b in grind (arith, to_z-of_z)
 
