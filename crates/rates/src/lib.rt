@@ -48,6 +48,7 @@ fn remainder(a: u32, b: u32) -> u32
 }
 
 // The greatest common divisor. The search stops at a remainder of 1 or 0, and before any where y is 1.
+#[tactic(auto, using(crate::proofs::Rates::search_steps))]
 fn gcd(x: u32, y: u32) -> u32
     requires { (0 < x) × (0 < y) }
     ensures { result ≡ gcd x y }
@@ -55,18 +56,13 @@ fn gcd(x: u32, y: u32) -> u32
     if y == 1 {
         return 1;
     }
-    let mut a = x;
-    let mut b = y;
+    let (mut a, mut b) = (x, y);
     loop {
-        let t = remainder(a, b);
-        if t == 1 {
-            break 1;
+        match remainder(a, b) {
+            1 => break 1,
+            0 => break b,
+            t => (a, b) = (b, t),
         }
-        if t == 0 {
-            break b;
-        }
-        a = b;
-        b = t;
     }
 }
 
@@ -75,30 +71,23 @@ fn quotient(rate: u32, divisor: u32) -> u32
     requires { 0 < divisor }
     ensures { result ≡ rate / divisor }
 {
-    if divisor == 1 {
-        return rate;
-    }
-    rate / divisor
+    if divisor == 1 { rate } else { rate / divisor }
 }
 
 // Are both rates within the limit?
+#[tactic(auto, unfolding(crate::specs::Rates::rates_allowed))]
 pub fn rates_allowed(in_rate: u32, out_rate: u32) -> bool
     ensures { result ≡ rates_allowed in_rate out_rate }
 {
-    if pcm::rate_allowed(in_rate) {
-        return pcm::rate_allowed(out_rate);
-    }
-    false
+    pcm::rate_allowed(in_rate) && pcm::rate_allowed(out_rate)
 }
 
 // The first output's position, where 0 is the state's newest frame and out_r the first of the block.
+#[tactic(auto, unfolding(crate::specs::Rates::start))]
 pub fn first_position(out_r: u64, primed: bool, phase: u64) -> u64
     ensures { result ≡ start out_r primed phase }
 {
-    if primed {
-        return phase;
-    }
-    out_r
+    if primed { phase } else { out_r }
 }
 
 impl LinearResampler {
@@ -121,13 +110,14 @@ impl LinearResampler {
     }
 
     // The room wanted for any number of frames, in frames. The caller keeps the product within 64 bits.
+    #[tactic(auto, unfolding(crate::specs::Rates::room_frames), using(crate::proofs::Rates::ceil_is))]
     pub fn room_frames(self, frames: usize) -> usize
         requires { (0 < self.in_rate) × (frames * self.out_rate + self.in_rate < 2 ^ 64) }
         ensures { result ≡ room_frames self.in_rate self.out_rate frames }
     {
         let output = self.out_rate as usize;
         let input = self.in_rate as usize;
-        (frames * output + (input - 1)) / input + 1
+        (frames * output).div_ceil(input) + 1
     }
 
     // The room wanted for a block of at most 8,192 frames, in frames.
@@ -146,6 +136,7 @@ impl LinearResampler {
     }
 
     // How many frames the stage makes of so many, from the phase alone: exact, at equal rates also.
+    #[tactic(auto, using(crate::proofs::Rates::counted))]
     pub fn output_frames(self, primed: bool, phase: u64, frames: usize) -> usize
         requires { (0 < self.in_r) × (frames * self.out_r + self.in_r < 2 ^ 64) }
         ensures { result ≡ resampled_count self primed phase frames }
@@ -155,9 +146,6 @@ impl LinearResampler {
         }
         let end = (frames as u64) * self.out_r;
         let num = first_position(self.out_r, primed, phase);
-        if end <= num {
-            return 0;
-        }
-        ((end - num + (self.in_r - 1)) / self.in_r) as usize
+        end.saturating_sub(num).div_ceil(self.in_r) as usize
     }
 }

@@ -1,6 +1,8 @@
 mod Blocks
 mod Interpolating
+mod Outputs
 mod Place
 mod Stage
+mod Writing
 pub mod laws
 pub mod Theorems

@@ -1,9 +1,7 @@
 -- A carried position: begun, advanced, and its whole frames, 2^32nds and way past a block. Assumes nothing.
-use mathlib.Core.Path.{◌≡◌, sym, ap, ◌∙◌}
-use Prim.Native.Nat.{ℕ, suc, ◌+◌, ◌-◌, ◌*◌, ◌/◌, ◌%◌, ◌≤◌, ◌<◌}
-use native.Mathlib.Nat.{mul-le-mul_right, div-add-mod', mod-lt, div-lt_iff_lt-mul}
-use native.Mathlib.Omega.{arith}
-use lib.Arith.{digits_div, digits_mod}
+use Rattle.std.specs.Prelude.{◌≡◌, ℕ, suc, ◌+◌, ◌-◌, ◌*◌, ◌/◌, ◌%◌, ◌≤◌, ◌<◌}
+use Rattle.std.proofs.Common.{sym, ap, ◌∙◌, mul-le-mul_right, div-add-mod', mod-lt, div-lt_iff_lt-mul, arith}
+use Rattle.std.proofs.Math.Arith.{digits_div, digits_mod}
 use Rattle.resample.specs.Value.{frac}
 use Rattle.resample.specs.declared.Position.{Position}
 use Rattle.resample.specs.Place.{At, Sum}

@@ -1,16 +1,7 @@
 -- The loop's way to begin: from the state's newest frame, whether it holds one or not. Assumes nothing.
-use mathlib.Core.Path.{◌≡◌, refl, sym, ap, ap₂, ◌∙◌}
-use mathlib.Core.Bool.{Bool, true, false, cond}
-use mathlib.Core.List.{List, [], ◌∷◌, ◌++◌}
-use Prim.Native.Nat.{ℕ, suc, ◌+◌, ◌-◌, ◌*◌, ◌≤◌, ◌<◌}
-use native.Mathlib.Nat.{not-suc-le-zero}
-use native.Mathlib.Omega.{arith}
-use borrow.Author.Tests.{lt-ltb, le-ltb}
-use lib.Dec.{eqb}
-use lib.IntN.{ℤ}
-use lib.ListN.{length}
-use Rattle.pcm.specs.Samples.{sample_at}
-use Rattle.pcm.specs.Frames.{Frame}
+use Rattle.std.specs.Prelude.{◌≡◌, refl, Bool, true, false, cond, List, [], ◌∷◌, ◌++◌, ℕ, suc, ◌+◌, ◌*◌, ◌<◌, eqb, length}
+use Rattle.std.proofs.Common.{sym, ap, ap₂, ◌∙◌, not-suc-le-zero, arith}
+use Rattle.pcm.specs.Frames.{Frame, frames_of}
 use Rattle.rates.specs.Counting.{tabulate, count, past}
 use Rattle.rates.specs.laws.Counting.{count_none_past, past-sum}
 use Rattle.resample.specs.Resample.{output_at, gaps, newest, holding, among, first_at, outputs_from, carried_outputs, carried_state, resampled, state_after}
@@ -18,15 +9,8 @@ use Rattle.resample.specs.laws.Cut.{outputs_append}
 use Rattle.rates.specs.declared.LinearResampler.{LinearResampler}
 use Rattle.rates.specs.declared.ResamplerState.{ResamplerState}
 use Rattle.rates.specs.Rates.{start}
-use Rattle.resample.specs.Stage.{earlier_of}
-
-pub earlier_first : (bytes : List ℕ) (last : ℤ) (i width : ℕ) → i < width → earlier_of bytes last i width ≡ last
-unfolding earlier_of
-earlier_first bytes last i width h = simp (lt-ltb _ _ h)
-
-pub earlier_inside : (bytes : List ℕ) (last : ℤ) (i width : ℕ) → width ≤ i → earlier_of bytes last i width ≡ sample_at bytes (i - width)
-unfolding earlier_of
-earlier_inside bytes last i width h = simp (le-ltb _ _ h)
+use Rattle.resample.specs.declared.Resampled.{Resampled}
+use Rattle.resample.specs.Stage.{Ready, Processed}
 
 -- ---- before the first frame the loop starts at the block's first, out_r past what the state holds
 module _ (i o : ℕ) where
@@ -65,12 +49,13 @@ module _ (i o : ℕ) where
       go true = refl
       go false = sym (past_by_loop (length ys))
 
--- ---- unequal rates
-module _ (r : LinearResampler) (s : ResamplerState) (xs : List Frame) (e : eqb r.in_rate r.out_rate ≡ false) where
-  pub resampled_unequal : resampled r s xs ≡ carried_outputs r.in_r r.out_r s xs
+-- ---- unequal rates, at the channel count that the block function is for
+module _ (r : LinearResampler) (s : ResamplerState) (input out₀ : List ℕ) {channels ch : ℕ} (e : eqb r.in_rate r.out_rate ≡ false) (n : channels ≡ ch) where
+  pub unequal_ready : Ready channels r.in_r r.out_r (resampled r s (frames_of channels input)) input out₀ → Ready ch r.in_r r.out_r (carried_outputs r.in_r r.out_r s (frames_of ch input)) input out₀
   unfolding resampled
-  resampled_unequal = rw e
+  unequal_ready h = rw (e, n) at h
 
-  pub state_unequal : state_after r s xs ≡ carried_state r.in_r r.out_r s xs
-  unfolding state_after
-  state_unequal = rw e
+  pub unequal_done : {out : List ℕ} {d : Resampled} → Processed (carried_outputs r.in_r r.out_r s (frames_of ch input)) (carried_state r.in_r r.out_r s (frames_of ch input)) out₀ out d
+      → Processed (resampled r s (frames_of channels input)) (state_after r s (frames_of channels input)) out₀ out d
+  unfolding resampled state_after
+  unequal_done p = rw (e, n) p

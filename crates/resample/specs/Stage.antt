@@ -1,7 +1,9 @@
 -- A block of bytes through the stage, over the channel count: what a call needs and what it promises. Assumes nothing.
-use Rattle.std.specs.Prelude.{◌≡◌, cond, List, ℕ, ◌+◌, ◌-◌, ◌*◌, ◌%◌, ◌≤◌, ◌<◌, ltb, ℤ, length}
-use Rattle.pcm.specs.Samples.{sample_at}
+use Rattle.std.specs.Prelude.{◌≡◌, List, ℕ, suc, ◌+◌, ◌*◌, ◌%◌, ◌≤◌, ◌<◌, length}
 use Rattle.pcm.specs.Frames.{Frame, bytes_of, written}
+use Rattle.rates.specs.Counting.{tabulate}
+use Rattle.resample.specs.Value.{interpolated}
+use Rattle.resample.specs.Neighbours.{sample_in}
 use Rattle.resample.specs.Place.{At}
 use Rattle.resample.specs.declared.Delivered.{Delivered}
 use Rattle.rates.specs.declared.ResamplerState.{ResamplerState}
@@ -28,6 +30,11 @@ pub record Looped (i o num : ℕ) (fs : List Frame) (out₀ out : List ℕ) (d :
   pub bytes_are : out ≡ written (bytes_of fs) out₀
   pub place : At o (num + d.frames * i) d.at
 
--- the sample of the same channel in the frame before that at the byte i, of `width` bytes
-unfoldable pub earlier_of : List ℕ → ℤ → ℕ → ℕ → ℤ
-earlier_of bytes last i width = cond (ltb i width) last (sample_at bytes (i - width))
+-- whole frames of one or two channels
+pub record Whole (ch : ℕ) (input : List ℕ) : Type 0 where
+  pub channels : (0 < ch) × (ch ≤ 2)
+  pub whole : length input % (ch * 2) ≡ 0
+
+-- the frame f / 2^32 of the way from frame g of X to the one after it
+abbrev pub frame_between : ℕ → List Frame → ℕ → ℕ → Frame
+frame_between ch X g f = tabulate ch (λ c. interpolated (sample_in X g c) (sample_in X (suc g) c) f)
