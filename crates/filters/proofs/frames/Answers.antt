@@ -1,0 +1,46 @@
+-- The loop's invariant from frame to frame and from sample to sample. Assumes nothing.
+use Rattle.std.proofs.Common.{rules, refl, sym, ◌∙◌, ap, arith, ◌≡◌, ℕ, ◌+◌, ◌*◌, ◌/◌, drop, get_or, w16, Fits, w64}
+use Rattle.std.specs.Int.{from_bool}
+use Rattle.pcm.specs.laws.Integers.{answered}
+use Rattle.pcm.specs.Frames.{frames_of}
+use Rattle.filters.specs.Filters.{taps_of}
+use Rattle.filters.specs.laws.Filters.{TwoChannels, length_filtered_bytes, taps_held}
+use Rattle.filters.proofs.Loop.{Filtering, none, filtering_start, filtering_frame, filtering_framed, filtering_sample, filtering_fits, filtering_at, filtering_end, next_frame, frame_done, next_sample, next_inside, block_samples}
+use Rattle.filters.proofs.frames.Goals as goal
+
+pub loop-k-init : goal.loop-k-init
+loop-k-init g c =
+    let two : TwoChannels c.args.memory = record { x1 = search rules; x2 = search rules; y1 = search rules; y2 = search rules } in
+    rw c.taps-taps.ensures (filtering_start c.requires two)
+
+pub loop-c-init : goal.loop-c-init
+loop-c-init g c =
+    filtering_at (filtering_frame c.loop-k.invariant (next_frame c.requires c.loop-k.k c.loop-k-test.true)) (omega arith)
+
+pub loop-c-preserved : goal.loop-c-preserved
+loop-c-preserved g c =
+    let k = c.loop-k.k in
+    let i = c.loop-c.c in
+    let h = c.loop-k-test.true in
+    let l = c.loop-c-test.true in
+    filtering_at
+    (filtering_sample c.loop-c.invariant (next_sample c.requires k h i l) (omega arith)
+    (c.tick-next.ensures ∙ ap (g.T.Tick.tick c.args.filter.now (get_or c.loop-c.taps i none)) (answered w16 c.get_i16.type_inv c.get_i16.ensures))
+    c.put_i16.ensures
+    (answered w16 c.rounded16.type_inv c.rounded16.ensures)
+    (c.from-clipped.ensures ∙ ap from_bool c.clipped.ensures)
+    (next_inside c.requires k h i l) c.requires.room)
+    (omega arith)
+
+pub overflow_add-clipped : goal.overflow_add-clipped
+overflow_add-clipped g c = record { fits = omega (arith, filtering_fits (loop-c-preserved g c), block_samples c.requires) }
+
+pub loop-k-preserved : goal.loop-k-preserved
+loop-k-preserved g c =
+    let at_end : c.loop-c.c ≡ g.row.C = omega (arith, c.loop-c.auto.c-end, c.loop-c-test.false) in
+    filtering_at (filtering_framed c.loop-c.invariant (rw at_end (frame_done c.requires c.loop-k.k c.loop-k-test.true))) (rw at_end (omega arith))
+
+pub returns : goal.returns
+returns g c =
+    let two : TwoChannels c.args.memory = record { x1 = search rules; x2 = search rules; y1 = search rules; y2 = search rules } in
+    filtering_end c.requires two c.loop-k.invariant (omega arith) c.of_taps.ensures refl
