@@ -19,6 +19,34 @@ pub struct CoefficientBits {
     pub a2: u32,
 }
 
+impl From<Coefficients> for CoefficientBits {
+    ghost from_gives = { λ k bits. bits ≡ patterns k };
+
+    fn from(k: Coefficients) -> CoefficientBits {
+        CoefficientBits {
+            b0: floats::bits_of_float(k.b0),
+            b1: floats::bits_of_float(k.b1),
+            b2: floats::bits_of_float(k.b2),
+            a1: floats::bits_of_float(k.a1),
+            a2: floats::bits_of_float(k.a2),
+        }
+    }
+}
+
+impl From<CoefficientBits> for Coefficients {
+    ghost from_gives = { λ bits k. k ≡ floats bits };
+
+    fn from(bits: CoefficientBits) -> Coefficients {
+        Coefficients {
+            b0: floats::float_of_bits(bits.b0),
+            b1: floats::float_of_bits(bits.b1),
+            b2: floats::float_of_bits(bits.b2),
+            a1: floats::float_of_bits(bits.a1),
+            a2: floats::float_of_bits(bits.a2),
+        }
+    }
+}
+
 // A filter for one rate.
 #[derive(Clone, Copy)]
 pub struct Biquad {
@@ -35,13 +63,7 @@ impl Biquad {
         Biquad {
             rate,
             coefficients,
-            bits: CoefficientBits {
-                b0: floats::bits_of_float(coefficients.b0),
-                b1: floats::bits_of_float(coefficients.b1),
-                b2: floats::bits_of_float(coefficients.b2),
-                a1: floats::bits_of_float(coefficients.a1),
-                a2: floats::bits_of_float(coefficients.a2),
-            },
+            bits: coefficients.into(),
         }
     }
 
@@ -58,13 +80,7 @@ impl Biquad {
     {
         Biquad {
             rate,
-            coefficients: Coefficients {
-                b0: floats::float_of_bits(bits.b0),
-                b1: floats::float_of_bits(bits.b1),
-                b2: floats::float_of_bits(bits.b2),
-                a1: floats::float_of_bits(bits.a1),
-                a2: floats::float_of_bits(bits.a2),
-            },
+            coefficients: bits.into(),
             bits,
         }
     }
@@ -94,6 +110,11 @@ impl Tick for Biquad {
         let Taps { x1, x2, y1, y2 } = taps;
         let x = f32::from(x);
         let y = b0 * x + b1 * x1 + b2 * x2 - a1 * y1 - a2 * y2;
-        Taps { x1: x, x2: x1, y1: y, y2: y1 }
+        Taps {
+            x1: x,
+            x2: x1,
+            y1: y,
+            y2: y1,
+        }
     }
 }

@@ -115,7 +115,11 @@ impl Tick for DcBlock {
     fn tick(&self, taps: Taps, x: i16) -> Taps {
         let x = f32::from(x);
         let y = (x - taps.x1) + self.r * taps.y1;
-        Taps { x1: x, y1: y, ..taps }
+        Taps {
+            x1: x,
+            y1: y,
+            ..taps
+        }
     }
 }
 

@@ -1,20 +1,20 @@
 -- The loop over a block, frame by frame and sample by sample. Assumes nothing.
-use Rattle.std.specs.Prelude.{◌≡◌, refl, Bool, true, false, List, [], ◌∷◌, ◌++◌, ℕ, suc, ◌+◌, ◌*◌, ◌/◌, ◌%◌, ◌≤◌, ◌<◌, ℤ, pos, length, take, drop, set, get_or}
+use Rattle.std.specs.Prelude.{◌≡◌, refl, Bool, true, false, List, [], ◌∷◌, ◌++◌, ℕ, ◌+◌, ◌*◌, ◌/◌, ◌≤◌, ◌<◌, ℤ, pos, length, take, drop, set, get_or}
 use Rattle.std.specs.Float.{nan}
 use Rattle.std.specs.Int.{from_bool}
-use Rattle.std.proofs.Common.{sym, ap, ◌∙◌, subst, append_assoc, add-one, arith, length-set, length-append, take-append-drop, drop_of_length-le, take-suc-set, drop-set-lt, drop-cons, div-add-mod'}
+use Rattle.std.proofs.Common.{sym, ap, ◌∙◌, subst, append_assoc, add-one, arith, length-set, take-append-drop, drop_of_length-le, take-suc-set, drop-set-lt, drop-cons, div-add-mod'}
 use Rattle.filters.specs.declared.Taps.{Taps}
 use Rattle.filters.specs.declared.FilterMemory.{FilterMemory}
 use Rattle.filters.specs.declared.Filtered.{Filtered}
 use Rattle.floats.specs.Rounding.{rounded16, clipped}
 use Rattle.counting.specs.Counting.{one}
-use Rattle.pcm.specs.Samples.{encode, decode, stored, sample_at}
+use Rattle.pcm.specs.Samples.{encode, stored, sample_at}
 use Rattle.pcm.specs.Frames.{Frame, frames_of, bytes_of, written, flat}
 use Rattle.pcm.specs.laws.Samples.{length_decode}
 use Rattle.pcm.specs.laws.Frames.{length_frames, length_frame, flat_frames, sample_inside, sample_of_lem}
 use Rattle.pcm.specs.laws.Writing.{Writing, writing_start, writing_put, writing_as, writing_done}
-use Rattle.filters.specs.Filters.{at_rest, first, others, memory_of_taps, taps_of, frame_next, frame_out, frame_clipped, filtered, filter_clipped, filter_next, memory_next, FilterBlock, FilteredBlock}
-use Rattle.filters.specs.laws.Filters.{bytes_cons, TwoChannels, taps_at, memory_held, taps_held, next_of_taps, filter_clipped_le, length_filtered_bytes}
+use Rattle.filters.specs.Filters.{memory_of_taps, taps_of, frame_next, frame_out, frame_clipped, filtered, filter_clipped, filter_next, memory_next, FilterBlock, FilteredBlock}
+use Rattle.filters.specs.laws.Filters.{bytes_cons, TwoChannels, memory_held, taps_held, next_of_taps, filter_clipped_le, length_filtered_bytes}
 
 -- what an index past the taps would give
 abbrev pub none : Taps

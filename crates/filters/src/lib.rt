@@ -106,7 +106,10 @@ fn frames<T: Tick, const C: usize>(
             clipped += usize::from(floats::clipped(next.y1));
         }
     }
-    Filtered { memory: FilterMemory::of_taps(taps), clipped }
+    Filtered {
+        memory: FilterMemory::of_taps(taps),
+        clipped,
+    }
 }
 
 // The same for a number of channels that is known when it runs; the memory goes in and comes back, beside how many samples were held back.

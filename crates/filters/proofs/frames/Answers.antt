@@ -1,11 +1,9 @@
 -- The loop's invariant from frame to frame and from sample to sample. Assumes nothing.
-use Rattle.std.proofs.Common.{rules, refl, sym, ◌∙◌, ap, arith, ◌≡◌, ℕ, ◌+◌, ◌*◌, ◌/◌, drop, get_or, w16, Fits, w64}
+use Rattle.std.proofs.Common.{rules, refl, ◌∙◌, ap, arith, ◌≡◌, get_or, w16}
 use Rattle.std.specs.Int.{from_bool}
 use Rattle.pcm.specs.laws.Integers.{answered}
-use Rattle.pcm.specs.Frames.{frames_of}
-use Rattle.filters.specs.Filters.{taps_of}
-use Rattle.filters.specs.laws.Filters.{TwoChannels, length_filtered_bytes, taps_held}
-use Rattle.filters.proofs.Loop.{Filtering, none, filtering_start, filtering_frame, filtering_framed, filtering_sample, filtering_fits, filtering_at, filtering_end, next_frame, frame_done, next_sample, next_inside, block_samples}
+use Rattle.filters.specs.laws.Filters.{TwoChannels}
+use Rattle.filters.proofs.Loop.{none, filtering_start, filtering_frame, filtering_framed, filtering_sample, filtering_fits, filtering_at, filtering_end, next_frame, frame_done, next_sample, next_inside, block_samples}
 use Rattle.filters.proofs.frames.Goals as goal
 
 pub loop-k-init : goal.loop-k-init

@@ -1,4 +1,4 @@
-use Rattle.std.proofs.Common.{ℕ, ◌+◌, ◌*◌, length, [], drop, get_or}
+use Rattle.std.proofs.Common.{◌+◌, ◌*◌, length, [], drop, get_or}
 use Rattle.pcm.specs.Frames.{frames_of}
 use Rattle.filters.specs.Filters.{taps_of}
 use Rattle.filters.proofs.Loop.{Filtering}

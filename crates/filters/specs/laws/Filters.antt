@@ -1,25 +1,21 @@
 -- A filter cut between two frames goes on from its memory. Assumes nothing.
-use Rattle.std.specs.Prelude.{◌≡◌, refl, ℕ, suc, ◌+◌, ◌*◌, ◌/◌, ◌%◌, ◌≤◌, ◌<◌, ℤ, get_or, drop, Float}
+use Rattle.std.specs.Prelude.{◌≡◌, refl, ℕ, suc, ◌+◌, ◌*◌, ◌/◌, ◌%◌, ◌≤◌, ◌<◌, ℤ, get_or, Float}
 use Rattle.std.proofs.Math.Path.{sym, ap, subst}
-use Rattle.std.proofs.Common.{◌∙◌, div-add-mod', drop_of_length-le, length-append}
+use Rattle.std.proofs.Common.{◌∙◌, div-add-mod', length-append}
 use mathlib.Core.List.{List, [], ◌∷◌, ◌++◌}
-use Rattle.std.proofs.Math.Nat.{zero-mod}
 use native.Mathlib.Omega.{arith}
 use Rattle.std.proofs.Math.ListN.{length}
 use Rattle.std.specs.Float.{nan}
 use Rattle.filters.specs.declared.Taps.{Taps}
 use Rattle.filters.specs.declared.FilterMemory.{FilterMemory}
-use Rattle.filters.specs.declared.Filtered.{Filtered}
-use Rattle.floats.specs.Rounding.{rounded16, clipped}
+use Rattle.floats.specs.Rounding.{clipped}
 use Rattle.floats.specs.laws.Rounding.{round_fits}
-use Rattle.counting.specs.Counting.{one}
 use Rattle.counting.specs.laws.Counting.{one_le}
-use Rattle.pcm.specs.Samples.{All, Samples, encode, stored, sample_at}
+use Rattle.pcm.specs.Samples.{All, Samples, encode}
 use Rattle.pcm.specs.laws.Samples.{all_by_index, encode-append}
-use Rattle.pcm.specs.Frames.{Frame, FramesOf, frames_of, bytes_of, written, flat}
-use Rattle.pcm.specs.laws.Frames.{length_frames, length_frame, length_bytes, frames-nil, frames_mono, frames_stereo}
-use Rattle.pcm.specs.laws.Writing.{Writing, writing_start, writing_put, writing_as, writing_end, next_pair, next_four}
-use Rattle.filters.specs.Filters.{at_rest, first, others, memory_of_taps, taps_of, frame_next, frame_out, frame_clipped, filtered, filter_clipped, filter_next, memory_next, FilterBlock, FilteredBlock}
+use Rattle.pcm.specs.Frames.{Frame, FramesOf, frames_of, bytes_of, flat}
+use Rattle.pcm.specs.laws.Frames.{length_frames, length_frame, length_bytes}
+use Rattle.filters.specs.Filters.{at_rest, first, others, memory_of_taps, taps_of, frame_next, frame_out, frame_clipped, filtered, filter_clipped, filter_next, memory_next}
 
 -- ---- taps and memories
 pub taps_of_memory : (ts : List Taps) → taps_of (memory_of_taps ts) ≡ ts
