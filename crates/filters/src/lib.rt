@@ -1,4 +1,4 @@
-// Filters of second order and below: what they keep between samples, and their one loop (dc_block.rs, biquad.rs).
+// What a filter keeps between samples, and the loop that every filter takes (dc_block.rs, biquad.rs).
 #![tactic(auto)]
 
 ghost use Rattle.std.specs.Prelude.{◌≡◌, ℤ};
@@ -85,7 +85,8 @@ pub trait Tick {
         ensures { result ≡ tick self.now taps x };
 }
 
-// Filters the whole frames of `input` into the front of `out`, each channel by its own taps.
+// Filters the whole frames of `input` into the front of `out`, each channel by its own taps. A frame is read before it is written, so
+// that its channels can go side by side.
 fn frames<T: Tick, const C: usize>(
     filter: &T,
     input: &[u8],
@@ -99,11 +100,11 @@ fn frames<T: Tick, const C: usize>(
     let mut clipped: usize = 0;
     for k in 0..input.len() / (C * 2) {
         for c in 0..C {
-            let i = (k * C + c) * 2;
-            let next = filter.tick(taps[c], pcm::get_i16(input, i));
-            taps[c] = next;
-            pcm::put_i16(out, i, floats::rounded16(next.y1));
-            clipped += usize::from(floats::clipped(next.y1));
+            taps[c] = filter.tick(taps[c], pcm::get_i16(input, (k * C + c) * 2));
+        }
+        for c in 0..C {
+            pcm::put_i16(out, (k * C + c) * 2, floats::rounded16(taps[c].y1));
+            clipped += usize::from(floats::clipped(taps[c].y1));
         }
     }
     Filtered {
@@ -112,7 +113,7 @@ fn frames<T: Tick, const C: usize>(
     }
 }
 
-// The same for a number of channels that is known when it runs; the memory goes in and comes back, beside how many samples were held back.
+// The same for a channel count that is known only when it runs; the memory goes in and comes back, beside how many samples were held back.
 pub fn process<T: Tick>(
     filter: &T,
     input: &[u8],
