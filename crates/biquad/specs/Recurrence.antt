@@ -4,7 +4,7 @@ use Rattle.std.specs.Float.{binary32}
 use Rattle.std.specs.Float.Ieee.{of_int, of_bits}
 use Rattle.floats.specs.Floats.{pattern_of}
 use Rattle.floats.specs.Operations.{◌+₃₂◌, ◌-₃₂◌, ◌*₃₂◌}
-use Rattle.filters.specs.Filters.{Taps}
+use Rattle.filters.specs.declared.Taps.{Taps}
 use Rattle.cookbook.specs.declared.Coefficients.{Coefficients}
 use Rattle.biquad.specs.declared.CoefficientBits.{CoefficientBits}
 

@@ -4,10 +4,10 @@
 ghost use Rattle.std.specs.Prelude.{◌≡◌};
 ghost use Rattle.filters.specs.Filters.{FilterBlock, FilteredBlock};
 ghost use Rattle.cookbook.specs.Cookbook.{identity};
-ghost use Rattle.biquad.specs.Recurrence.{recurrence, biquad_tick, patterns, floats};
+ghost use Rattle.biquad.specs.Recurrence.{biquad_tick, patterns, floats};
 
 use cookbook::Coefficients;
-use filters::{FilterMemory, Filtered};
+use filters::{FilterMemory, Filtered, Taps, Tick};
 
 // The coefficients' bits, as they came.
 #[derive(Clone, Copy)]
@@ -17,6 +17,34 @@ pub struct CoefficientBits {
     pub b2: u32,
     pub a1: u32,
     pub a2: u32,
+}
+
+impl From<Coefficients> for CoefficientBits {
+    ghost from_gives = { λ k bits. bits ≡ patterns k };
+
+    fn from(k: Coefficients) -> CoefficientBits {
+        CoefficientBits {
+            b0: floats::bits_of_float(k.b0),
+            b1: floats::bits_of_float(k.b1),
+            b2: floats::bits_of_float(k.b2),
+            a1: floats::bits_of_float(k.a1),
+            a2: floats::bits_of_float(k.a2),
+        }
+    }
+}
+
+impl From<CoefficientBits> for Coefficients {
+    ghost from_gives = { λ bits k. k ≡ floats bits };
+
+    fn from(bits: CoefficientBits) -> Coefficients {
+        Coefficients {
+            b0: floats::float_of_bits(bits.b0),
+            b1: floats::float_of_bits(bits.b1),
+            b2: floats::float_of_bits(bits.b2),
+            a1: floats::float_of_bits(bits.a1),
+            a2: floats::float_of_bits(bits.a2),
+        }
+    }
 }
 
 // A filter for one rate.
@@ -35,13 +63,7 @@ impl Biquad {
         Biquad {
             rate,
             coefficients,
-            bits: CoefficientBits {
-                b0: floats::bits_of_float(coefficients.b0),
-                b1: floats::bits_of_float(coefficients.b1),
-                b2: floats::bits_of_float(coefficients.b2),
-                a1: floats::bits_of_float(coefficients.a1),
-                a2: floats::bits_of_float(coefficients.a2),
-            },
+            bits: coefficients.into(),
         }
     }
 
@@ -58,13 +80,7 @@ impl Biquad {
     {
         Biquad {
             rate,
-            coefficients: Coefficients {
-                b0: floats::float_of_bits(bits.b0),
-                b1: floats::float_of_bits(bits.b1),
-                b2: floats::float_of_bits(bits.b2),
-                a1: floats::float_of_bits(bits.a1),
-                a2: floats::float_of_bits(bits.a2),
-            },
+            coefficients: bits.into(),
             bits,
         }
     }
@@ -80,90 +96,25 @@ impl Biquad {
         requires { FilterBlock channels input.now out.old }
         ensures { FilteredBlock (biquad_tick self.coefficients) channels memory input.now out.old out.new result }
     {
-        if channels == 1 {
-            mono(input, out, self.coefficients, memory)
-        } else {
-            stereo(input, out, self.coefficients, memory)
+        filters::process(&self, input, out, channels, memory)
+    }
+}
+
+impl Tick for Biquad {
+    ghost tick = { λ filter. biquad_tick filter.coefficients };
+
+    // y = (((b0 * x + b1 * x1) + b2 * x2) - a1 * y1) - a2 * y2
+    #[tactic(auto, unfolding(crate::specs::Recurrence::biquad_tick))]
+    fn tick(&self, taps: Taps, x: i16) -> Taps {
+        let Coefficients { b0, b1, b2, a1, a2 } = self.coefficients;
+        let Taps { x1, x2, y1, y2 } = taps;
+        let x = f32::from(x);
+        let y = b0 * x + b1 * x1 + b2 * x2 - a1 * y1 - a2 * y2;
+        Taps {
+            x1: x,
+            x2: x1,
+            y1: y,
+            y2: y1,
         }
     }
-}
-
-// (((b0 * x + b1 * x1) + b2 * x2) - a1 * y1) - a2 * y2
-fn output(k: Coefficients, x: f32, x1: f32, x2: f32, y1: f32, y2: f32) -> f32
-    ensures { result ≡ recurrence k x x1 x2 y1 y2 }
-{
-    k.b0 * x + k.b1 * x1 + k.b2 * x2 - k.a1 * y1 - k.a2 * y2
-}
-
-fn mono(input: &[u8], out: &mut [u8], k: Coefficients, memory: FilterMemory) -> Filtered
-    requires { FilterBlock 1 input.now out.old }
-    ensures { FilteredBlock (biquad_tick k) 1 memory input.now out.old out.new result }
-{
-    let mut x1 = memory.x1[0];
-    let mut x2 = memory.x2[0];
-    let mut y1 = memory.y1[0];
-    let mut y2 = memory.y2[0];
-    let n = input.len();
-    let mut i = 0;
-    let mut c: usize = 0;
-    while i < n {
-        let x = pcm::get_i16(input, i) as f32;
-        let y = output(k, x, x1, x2, y1, y2);
-        x2 = x1;
-        x1 = x;
-        y2 = y1;
-        y1 = y;
-        pcm::put_i16(out, i, floats::rounded16(y));
-        c += counting::one(floats::clipped(y));
-        i += 2;
-    }
-    let memory = FilterMemory {
-        x1: [x1, memory.x1[1]],
-        x2: [x2, memory.x2[1]],
-        y1: [y1, memory.y1[1]],
-        y2: [y2, memory.y2[1]],
-    };
-    Filtered { memory, clipped: c }
-}
-
-fn stereo(input: &[u8], out: &mut [u8], k: Coefficients, memory: FilterMemory) -> Filtered
-    requires { FilterBlock 2 input.now out.old }
-    ensures { FilteredBlock (biquad_tick k) 2 memory input.now out.old out.new result }
-{
-    let mut lx1 = memory.x1[0];
-    let mut lx2 = memory.x2[0];
-    let mut ly1 = memory.y1[0];
-    let mut ly2 = memory.y2[0];
-    let mut rx1 = memory.x1[1];
-    let mut rx2 = memory.x2[1];
-    let mut ry1 = memory.y1[1];
-    let mut ry2 = memory.y2[1];
-    let n = input.len();
-    let mut i = 0;
-    let mut c: usize = 0;
-    while i < n {
-        let lx = pcm::get_i16(input, i) as f32;
-        let rx = pcm::get_i16(input, i + 2) as f32;
-        let ly = output(k, lx, lx1, lx2, ly1, ly2);
-        let ry = output(k, rx, rx1, rx2, ry1, ry2);
-        lx2 = lx1;
-        lx1 = lx;
-        ly2 = ly1;
-        ly1 = ly;
-        rx2 = rx1;
-        rx1 = rx;
-        ry2 = ry1;
-        ry1 = ry;
-        pcm::put_i16(out, i, floats::rounded16(ly));
-        pcm::put_i16(out, i + 2, floats::rounded16(ry));
-        c += counting::one(floats::clipped(ly)) + counting::one(floats::clipped(ry));
-        i += 4;
-    }
-    let memory = FilterMemory {
-        x1: [lx1, rx1],
-        x2: [lx2, rx2],
-        y1: [ly1, ry1],
-        y2: [ly2, ry2],
-    };
-    Filtered { memory, clipped: c }
 }

@@ -7,7 +7,7 @@ use Rattle.pcm.specs.declared.Error.TheVariants.{InvalidFormat}
 use Rattle.pcm.specs.Formats.{rate_allowed}
 use Rattle.pcm.specs.Refusals.{refusal, ask, number_of, if_accepted, Verdict}
 use Rattle.floats.specs.Operations.{plus_zero, ◌+₃₂◌, ◌-₃₂◌, ◌*₃₂◌, ◌/₃₂◌}
-use Rattle.filters.specs.Filters.{Taps}
+use Rattle.filters.specs.declared.Taps.{Taps}
 use Rattle.dc_block.specs.declared.DcBlock.{DcBlock}
 
 -- (x - x1) + r * y1

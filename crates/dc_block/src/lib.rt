@@ -7,9 +7,9 @@ ghost use Rattle.std.specs.Float.Ieee.{of_bits, of_int};
 ghost use Rattle.floats.specs.Floats.{pattern_of};
 ghost use Rattle.pcm.specs.Formats.{rate_allowed};
 ghost use Rattle.filters.specs.Filters.{FilterBlock, FilteredBlock};
-ghost use Rattle.dc_block.specs.DcBlock.{blocked, dc_tick, pole_of, pole_verdict, pole_answer, pole_told, pole_valued, untuned};
+ghost use Rattle.dc_block.specs.DcBlock.{dc_tick, pole_of, pole_verdict, pole_answer, pole_told, pole_valued, untuned};
 
-use filters::{FilterMemory, Filtered};
+use filters::{FilterMemory, Filtered, Taps, Tick};
 use pcm::Error;
 
 // 2π as a binary32.
@@ -77,10 +77,22 @@ impl DcBlock {
         requires { FilterBlock channels input.now out.old }
         ensures { FilteredBlock (dc_tick self.r) channels memory input.now out.old out.new result }
     {
-        if channels == 1 {
-            mono(input, out, self.r, memory)
-        } else {
-            stereo(input, out, self.r, memory)
+        filters::process(&self, input, out, channels, memory)
+    }
+}
+
+impl Tick for DcBlock {
+    ghost tick = { λ filter. dc_tick filter.r };
+
+    // y = (x - x1) + r * y1; x2 and y2 stay, no part of this filter's sound state.
+    #[tactic(auto, unfolding(crate::specs::DcBlock::dc_tick))]
+    fn tick(&self, taps: Taps, x: i16) -> Taps {
+        let x = f32::from(x);
+        let y = (x - taps.x1) + self.r * taps.y1;
+        Taps {
+            x1: x,
+            y1: y,
+            ..taps
         }
     }
 }
@@ -91,73 +103,4 @@ fn radius(corner: f32, rate: u32) -> f32
     ensures { result ≡ pole_of corner rate }
 {
     1.0 - (TAU * corner) / (rate as f32)
-}
-
-// (x - x1) + r * y1
-fn output(r: f32, x: f32, x1: f32, y1: f32) -> f32
-    ensures { result ≡ blocked r x x1 y1 }
-{
-    (x - x1) + r * y1
-}
-
-fn mono(input: &[u8], out: &mut [u8], r: f32, memory: FilterMemory) -> Filtered
-    requires { FilterBlock 1 input.now out.old }
-    ensures { FilteredBlock (dc_tick r) 1 memory input.now out.old out.new result }
-{
-    let mut x1 = memory.x1[0];
-    let mut y1 = memory.y1[0];
-    let n = input.len();
-    let mut i = 0;
-    let mut c: usize = 0;
-    while i < n {
-        let x = pcm::get_i16(input, i) as f32;
-        y1 = output(r, x, x1, y1);
-        x1 = x;
-        pcm::put_i16(out, i, floats::rounded16(y1));
-        c += counting::one(floats::clipped(y1));
-        i += 2;
-    }
-    let x2 = memory.x2;
-    let y2 = memory.y2;
-    let memory = FilterMemory {
-        x1: [x1, memory.x1[1]],
-        x2,
-        y1: [y1, memory.y1[1]],
-        y2,
-    };
-    Filtered { memory, clipped: c }
-}
-
-fn stereo(input: &[u8], out: &mut [u8], r: f32, memory: FilterMemory) -> Filtered
-    requires { FilterBlock 2 input.now out.old }
-    ensures { FilteredBlock (dc_tick r) 2 memory input.now out.old out.new result }
-{
-    let mut lx1 = memory.x1[0];
-    let mut ly1 = memory.y1[0];
-    let mut rx1 = memory.x1[1];
-    let mut ry1 = memory.y1[1];
-    let n = input.len();
-    let mut i = 0;
-    let mut c: usize = 0;
-    while i < n {
-        let lx = pcm::get_i16(input, i) as f32;
-        let rx = pcm::get_i16(input, i + 2) as f32;
-        ly1 = output(r, lx, lx1, ly1);
-        ry1 = output(r, rx, rx1, ry1);
-        lx1 = lx;
-        rx1 = rx;
-        pcm::put_i16(out, i, floats::rounded16(ly1));
-        pcm::put_i16(out, i + 2, floats::rounded16(ry1));
-        c += counting::one(floats::clipped(ly1)) + counting::one(floats::clipped(ry1));
-        i += 4;
-    }
-    let x2 = memory.x2;
-    let y2 = memory.y2;
-    let memory = FilterMemory {
-        x1: [lx1, rx1],
-        x2,
-        y1: [ly1, ry1],
-        y2,
-    };
-    Filtered { memory, clipped: c }
 }

@@ -1,19 +1,13 @@
 -- A filter on frames, each channel by its own memory (document 01, 'The whole stream'). A filter is its `tick`: one channel's taps
 -- after a sample. Definitions only.
 use Rattle.std.specs.Prelude.{◌≡◌, List, [], ◌∷◌, map, ℕ, ◌+◌, ◌*◌, ◌%◌, ◌≤◌, ◌<◌, ℤ, length, Float}
+use Rattle.filters.specs.declared.Taps.{Taps}
 use Rattle.filters.specs.declared.FilterMemory.{FilterMemory}
 use Rattle.filters.specs.declared.Filtered.{Filtered}
 use Rattle.floats.specs.Operations.{plus_zero}
 use Rattle.floats.specs.Rounding.{rounded16, clipped}
 use Rattle.pcm.specs.Frames.{Frame, frames_of, bytes_of, written}
 use Rattle.counting.specs.Counting.{one}
-
--- one channel's two earlier inputs and two earlier outputs
-pub record Taps : Type 0 where
-  pub x1 : Float
-  pub x2 : Float
-  pub y1 : Float
-  pub y2 : Float
 
 -- each channel starts with x1, x2, y1, y2 at +0
 abbrev pub at_rest : Taps

@@ -1,24 +1,21 @@
--- A filter cut between two frames goes on from its memory, and the loop over a block. Assumes nothing.
-use Rattle.std.specs.Prelude.{◌≡◌, refl, ℕ, suc, ◌+◌, ◌*◌, ◌/◌, ◌%◌, ◌≤◌, ◌<◌, ℤ, get_or, drop, Float}
+-- A filter cut between two frames goes on from its memory. Assumes nothing.
+use Rattle.std.specs.Prelude.{◌≡◌, refl, ℕ, suc, ◌+◌, ◌*◌, ◌/◌, ◌%◌, ◌≤◌, ◌<◌, ℤ, get_or, Float}
 use Rattle.std.proofs.Math.Path.{sym, ap, subst}
-use Rattle.std.proofs.Common.{◌∙◌, div-add-mod', drop_of_length-le, length-append}
+use Rattle.std.proofs.Common.{◌∙◌, div-add-mod', length-append}
 use mathlib.Core.List.{List, [], ◌∷◌, ◌++◌}
-use Rattle.std.proofs.Math.Nat.{zero-mod}
 use native.Mathlib.Omega.{arith}
 use Rattle.std.proofs.Math.ListN.{length}
 use Rattle.std.specs.Float.{nan}
+use Rattle.filters.specs.declared.Taps.{Taps}
 use Rattle.filters.specs.declared.FilterMemory.{FilterMemory}
-use Rattle.filters.specs.declared.Filtered.{Filtered}
-use Rattle.floats.specs.Rounding.{rounded16, clipped}
+use Rattle.floats.specs.Rounding.{clipped}
 use Rattle.floats.specs.laws.Rounding.{round_fits}
-use Rattle.counting.specs.Counting.{one}
 use Rattle.counting.specs.laws.Counting.{one_le}
-use Rattle.pcm.specs.Samples.{All, Samples, encode, stored, sample_at}
+use Rattle.pcm.specs.Samples.{All, Samples, encode}
 use Rattle.pcm.specs.laws.Samples.{all_by_index, encode-append}
-use Rattle.pcm.specs.Frames.{Frame, FramesOf, frames_of, bytes_of, written, flat}
-use Rattle.pcm.specs.laws.Frames.{length_frames, length_frame, length_bytes, frames-nil, frames_mono, frames_stereo}
-use Rattle.pcm.specs.laws.Writing.{Writing, writing_start, writing_put, writing_as, writing_end, next_pair, next_four}
-use Rattle.filters.specs.Filters.{Taps, at_rest, first, others, memory_of_taps, taps_of, frame_next, frame_out, frame_clipped, filtered, filter_clipped, filter_next, memory_next, FilterBlock, FilteredBlock}
+use Rattle.pcm.specs.Frames.{Frame, FramesOf, frames_of, bytes_of, flat}
+use Rattle.pcm.specs.laws.Frames.{length_frames, length_frame, length_bytes}
+use Rattle.filters.specs.Filters.{at_rest, first, others, memory_of_taps, taps_of, frame_next, frame_out, frame_clipped, filtered, filter_clipped, filter_next, memory_next}
 
 -- ---- taps and memories
 pub taps_of_memory : (ts : List Taps) → taps_of (memory_of_taps ts) ≡ ts
@@ -127,101 +124,6 @@ module _ (tick : Taps → ℤ → Taps) where
       length_bytes ch (filtered tick ts (frames_of ch bytes)) (sized_are_frames ch ts (frames_of ch bytes) sized)
       ∙ ap (λ (k : ℕ). k * (ch * 2)) n ∙ omega (arith, div-add-mod' (length bytes) (ch * 2))
 
-bytes_cons : (f : Frame) (fs : List Frame) → bytes_of (f ∷ fs) ≡ encode f ++ bytes_of fs
+pub bytes_cons : (f : Frame) (fs : List Frame) → bytes_of (f ∷ fs) ≡ encode f ++ bytes_of fs
 unfolding bytes_of
 bytes_cons f fs = encode-append f (flat fs)
-
--- not one channel, so two
-pub two_channels : {channels : ℕ} {input out : List ℕ} → FilterBlock channels input out → (channels ≡ 1 → ⊥) → channels ≡ 2
-two_channels b h = omega (arith, h, b.at_least_one, b.at_most_two)
-
--- ---- the loop over a block: i bytes are read and written, c samples of them were held back, and the channels' taps are ts; the
--- filter's output of what is left to read is left to write, and its count to be added
-pub record Filtering (tick : Taps → ℤ → Taps) (ch : ℕ) (ts₀ : List Taps) (input out₀ : List ℕ) (ts : List Taps) (out : List ℕ) (c i : ℕ) : Type 0 where
-  pub inside : i ≤ length input
-  pub whole : i % (ch * 2) ≡ 0
-  pub output : Writing (written (bytes_of (filtered tick ts₀ (frames_of ch input))) out₀) (bytes_of (filtered tick ts (frames_of ch (drop i input)))) (length input) out₀ out i
-  pub kept : filter_next tick ts₀ (frames_of ch input) ≡ filter_next tick ts (frames_of ch (drop i input))
-  pub few : c ≤ i
-  pub counted : filter_clipped tick ts₀ (frames_of ch input) ≡ c + filter_clipped tick ts (frames_of ch (drop i input))
-
-module _ {tick : Taps → ℤ → Taps} {ts₀ : List Taps} {input out₀ : List ℕ} where
-  pub filtering_start : (ch : ℕ) → length input % (ch * 2) ≡ 0 → Filtering tick ch ts₀ input out₀ ts₀ out₀ 0 0
-  filtering_start ch w = record {
-    inside = omega arith;
-    whole = zero-mod (ch * 2);
-    output = writing_start (bytes_of (filtered tick ts₀ (frames_of ch input))) (length input) out₀ (sym (length_filtered_bytes tick ch ts₀ input w));
-    kept = refl;
-    few = omega arith;
-    counted = omega arith;
-  }
-
-  -- the frame f is read up to j, its output written, and its n samples that were held back counted
-  filtering_frame : (ch : ℕ) (f : Frame) {ts : List Taps} {out out' : List ℕ} {c n i j : ℕ}
-      → Filtering tick ch ts₀ input out₀ ts out c i → j ≤ length input → j % (ch * 2) ≡ 0 → i + length f ≤ j → frames_of ch (drop i input) ≡ f ∷ frames_of ch (drop j input)
-      → ((goal rest : List ℕ) → Writing goal (encode (frame_out tick ts f) ++ rest) (length input) out₀ out i → Writing goal rest (length input) out₀ out' j)
-      → n ≡ frame_clipped tick ts f
-      → Filtering tick ch ts₀ input out₀ (frame_next tick ts f) out' (c + n) j
-  filtering_frame ch f {ts} {out} {out'} {c} {n} {i} {j} r h w l e put q = record {
-    inside = h;
-    whole = w;
-    output = put _ _ (writing_as r.output (ap (λ (fs : List Frame). bytes_of (filtered tick ts fs)) e ∙ bytes_cons _ _));
-    kept = r.kept ∙ ap (filter_next tick ts) e;
-    few = omega (arith, r.few, frame_clipped_le tick ts f);
-    counted = omega (arith, r.counted, ap (filter_clipped tick ts) e);
-  }
-
-  module _ (room : length input ≤ length out₀) {out out' : List ℕ} {c i : ℕ} (more : i < length input) where
-    -- a frame of one channel
-    pub filtering_mono : {t t' : Taps} {ts : List Taps} {y : ℤ} {n : ℕ}
-        → length input % 2 ≡ 0 → Filtering tick 1 ts₀ input out₀ (t ∷ ts) out c i
-        → t' ≡ tick t (sample_at input i) → out' ≡ stored out i y → y ≡ rounded16 t'.y1 → n ≡ one (clipped t'.y1)
-        → Filtering tick 1 ts₀ input out₀ (t' ∷ ts) out' (c + n) (i + 2)
-    unfolding sample_at
-    filtering_mono {t} {t'} {ts} {y} {n} w r e p q z =
-        let m : i % 2 ≡ 0 = r.whole in
-        let k : i + 2 ≤ length input = omega arith in
-        subst (λ (u : Taps). Filtering tick 1 ts₀ input out₀ (u ∷ ts) out' (c + n) (i + 2)) (sym e)
-        (filtering_frame 1 (sample_at input i ∷ []) r k (omega arith) (omega arith)
-        (ap (frames_of 1) (next_pair input i (omega arith)) ∙ frames_mono _ _ _)
-        (λ _ _ v. writing_put v p (q ∙ ap (λ (u : Taps). rounded16 u.y1) e) k room)
-        (omega (arith, z ∙ ap (λ (u : Taps). one (clipped u.y1)) e)))
-
-    -- a frame of two channels
-    pub filtering_stereo : {l l' r r' : Taps} {ts : List Taps} {mid : List ℕ} {y y' : ℤ} {n n' : ℕ}
-        → length input % 4 ≡ 0 → Filtering tick 2 ts₀ input out₀ (l ∷ r ∷ ts) out c i
-        → l' ≡ tick l (sample_at input i) → r' ≡ tick r (sample_at input (i + 2))
-        → mid ≡ stored out i y → y ≡ rounded16 l'.y1 → out' ≡ stored mid (i + 2) y' → y' ≡ rounded16 r'.y1
-        → n ≡ one (clipped l'.y1) → n' ≡ one (clipped r'.y1)
-        → Filtering tick 2 ts₀ input out₀ (l' ∷ r' ∷ ts) out' (c + (n + n')) (i + 4)
-    unfolding sample_at
-    filtering_stereo {l} {l'} {r} {r'} {ts} {mid} {y} {y'} {n} {n'} w s el er p q p' q' z z' =
-        let m : i % 4 ≡ 0 = s.whole in
-        let k : i + 4 ≤ length input = omega arith in
-        let i₄ : i + 2 + 2 ≡ i + 4 = omega arith in
-        rw (el, er)
-        (filtering_frame 2 (sample_at input i ∷ sample_at input (i + 2) ∷ []) s k (omega arith) (omega arith)
-        (ap (frames_of 2) (next_four input i (omega arith)) ∙ frames_stereo _ _ _ _ _)
-        (λ _ _ v. rw i₄ at (writing_put (writing_put v p (q ∙ ap (λ (u : Taps). rounded16 u.y1) el) (omega arith) room) p' (q' ∙ ap (λ (u : Taps). rounded16 u.y1) er) (omega arith) room))
-        (omega (arith, z ∙ ap (λ (u : Taps). one (clipped u.y1)) el, z' ∙ ap (λ (u : Taps). one (clipped u.y1)) er)))
-
-  -- the end of the input: the output is written, the memory is that afterwards, and the count is whole
-  pub filtering_end : {m : FilterMemory} {a : Filtered} {ch : ℕ} {ts : List Taps} {out : List ℕ} {c i : ℕ}
-      → TwoChannels m → ts₀ ≡ taps_at m 0 ∷ taps_at m 1 ∷ [] → Filtering tick ch ts₀ input out₀ ts out c i → length input ≤ i → a.memory ≡ memory_of_taps ts → a.clipped ≡ c
-      → FilteredBlock tick ch m input out₀ out a
-  unfolding bytes_of
-  filtering_end {m} {a} {ch} {ts} {out} {c} {i} two e r h p q =
-      let at_end : i ≡ length input = omega (arith, r.inside) in
-      let held : ts₀ ≡ taps_of m = e ∙ sym (taps_held m two) in
-      let none : frames_of ch (drop i input) ≡ [] = ap (frames_of ch) (drop_of_length-le input h) ∙ frames-nil ch in
-      let last : ts ≡ filter_next tick ts₀ (frames_of ch input) = sym (r.kept ∙ ap (filter_next tick ts) none) in
-      let all : c ≡ filter_clipped tick ts₀ (frames_of ch input) = omega (arith, r.counted, ap (filter_clipped tick ts) none) in
-      record {
-        bytes =
-            writing_end (λ l. bytes_of (filtered tick ts (frames_of ch l))) input i r.output h (ap (λ (fs : List Frame). bytes_of (filtered tick ts fs)) (frames-nil ch)) at_end
-            ∙ ap (λ (us : List Taps). written (bytes_of (filtered tick us (frames_of ch input))) out₀) held;
-        memory =
-            p ∙ ap memory_of_taps last ∙ sym (next_of_taps tick ts₀ (frames_of ch input))
-            ∙ ap (λ (n : FilterMemory). memory_next tick n (frames_of ch input)) (ap memory_of_taps e ∙ memory_held m two);
-        clipped = q ∙ all ∙ ap (λ (us : List Taps). filter_clipped tick us (frames_of ch input)) held;
-      }

@@ -5,12 +5,13 @@ use Rattle.std.proofs.Math.Path.{ap}
 use borrow.Author.Tests.{leb-true, eqb-true}
 use Rattle.std.proofs.Math.ListN.{length}
 use Rattle.pcm.specs.declared.PcmFormat.{PcmFormat}
+use Rattle.filters.specs.declared.Taps.{Taps}
 use Rattle.filters.specs.declared.FilterMemory.{FilterMemory}
 use Rattle.filters.specs.declared.Filtered.{Filtered}
 use Rattle.pcm.specs.Samples.{decode}
 use Rattle.pcm.specs.Frames.{Frame, FramesOf, frames_of, bytes_of, written}
 use Rattle.pcm.specs.laws.Frames.{length_frames, length_bytes}
-use Rattle.filters.specs.Filters.{Taps, FilterBlock, FilteredBlock, filtered, taps_of, memory_next}
+use Rattle.filters.specs.Filters.{FilterBlock, FilteredBlock, filtered, taps_of, memory_next}
 use Rattle.filters.specs.laws.Filters.{length_filtered_bytes}
 use Rattle.gain.specs.declared.Gain.{Gain}
 use Rattle.gain.specs.Gain.{scaled_bytes}
