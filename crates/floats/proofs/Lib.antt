@@ -1,8 +1,8 @@
-mod Fields
+mod Cast
 mod HalfUp
 mod Held
+mod Library
 mod Nan
 mod Nudged
-mod Short
 mod Ties
 mod Whole
