@@ -156,7 +156,7 @@ fn record_of(kind: u16, left: &[u8]) -> Record
 {
     match kind {
         1 => Record::Gain {
-            q15: words::signed(words::get_u32(left, 4)),
+            q15: words::get_u32(left, 4).cast_signed(),
         },
         2 => Record::MonoToStereo,
         3 => Record::StereoToMono,
@@ -234,7 +234,7 @@ impl Record {
         ensures { out.new ≡ sets out.old 4 (words_bytes (fields_of self)) }
     {
         match self {
-            Record::Gain { q15 } => words::put_u32(out, 4, words::bits(q15)),
+            Record::Gain { q15 } => words::put_u32(out, 4, q15.cast_unsigned()),
             Record::MonoToStereo => (),
             Record::StereoToMono => (),
             Record::Resample { in_rate, out_rate } => {

@@ -24,8 +24,8 @@ six c = let r = c.in_default.in_default-own.rest in last_kind c.args.kind c.requ
 returns : tie.Need-returns-in-1
 unfolding record_of
 returns c =
-    let e = c.signed.ensures in
-    rw c.in-1.is (ap rec.Gain (answered w32 c.signed.type_inv (e ∙ ap (to_z w32) c.get_u32.ensures)))
+    let e = c.cast_signed.ensures in
+    rw c.in-1.is (ap rec.Gain (answered w32 c.cast_signed.type_inv (e ∙ ap (to_z w32) c.get_u32.ensures)))
 
 returns-2 : tie.Need-returns-in-2
 unfolding record_of
