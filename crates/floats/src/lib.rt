@@ -72,7 +72,7 @@ pub fn rounded16(v: f32) -> i16
     if h.is_nan() {
         return 0;
     }
-    low16(f64::to_bits((h as f64) * 1.0000000037252903 + 6755399441055744.0))
+    low16(((h as f64) * 1.0000000037252903 + 6755399441055744.0).to_bits())
 }
 
 // The sample whose 16 bits stand lowest.
