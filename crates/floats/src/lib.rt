@@ -65,6 +65,7 @@ pub fn round_sat16(v: f32) -> Saturated
 // The sample alone. The float is held before it is rounded, so nothing is to be held afterwards.
 // Past 2^52 a binary64 is a whole number, so the sum with 3 * 2^51 is rounded, and its lowest bits are the sample's. It rounds
 // ties to even; the factor 1 + 2^-28 takes halves away from zero before, and nothing else past a half.
+// Kept: the library's `round` and saturating cast give this sample too, and take four to seven times as long in a loop of samples.
 pub fn rounded16(v: f32) -> i16
     ensures { result ≡ rounded16 v }
 {
