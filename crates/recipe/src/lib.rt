@@ -156,7 +156,7 @@ fn record_of(kind: u16, left: &[u8]) -> Record
 {
     match kind {
         1 => Record::Gain {
-            q15: words::get_u32(left, 4).cast_signed(),
+            q15: words::get_i32(left, 4),
         },
         2 => Record::MonoToStereo,
         3 => Record::StereoToMono,

@@ -346,7 +346,7 @@ pub fn from_q15() -> bool {
     if !input::filled(&mut s) {
         return false;
     }
-    let kept = Gain::from_q15(words::get_u32(&s, 0).cast_signed());
+    let kept = Gain::from_q15(words::get_i32(&s, 0));
     output::word(kept.q15().cast_unsigned());
     true
 }
@@ -381,6 +381,6 @@ pub fn sat16() -> bool {
     if !input::filled(&mut s) {
         return false;
     }
-    held(pcm::sat16(words::get_u32(&s, 0).cast_signed()));
+    held(pcm::sat16(words::get_i32(&s, 0)));
     true
 }

@@ -3,6 +3,8 @@
 
 ghost use Rattle.std.specs.Prelude.{◌≡◌, ◌+◌, ◌<◌, ◌≤◌, length, take, drop};
 ghost use Rattle.std.proofs.lemmas.List.Edits.{sets};
+ghost use Rattle.std.specs.Int.{w32};
+ghost use Rattle.std.proofs.Common.{to_z};
 ghost use Rattle.words.specs.Words.{word_at, word_bytes};
 
 // The N bytes from i on.
@@ -45,6 +47,14 @@ pub fn get_u64(s: &[u8], i: usize) -> u64
     ensures { result ≡ word_at 8 i s.now }
 {
     u64::from_le_bytes(bytes_at(s, i))
+}
+
+// The signed number in the four bytes from i on, in two's complement.
+pub fn get_i32(s: &[u8], i: usize) -> i32
+    requires { i + 3 < length s.now }
+    ensures { result ≡ to_z w32 (word_at 4 i s.now) }
+{
+    i32::from_le_bytes(bytes_at(s, i))
 }
 
 // The number x to the bytes i and i + 1.
