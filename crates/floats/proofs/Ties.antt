@@ -1,4 +1,4 @@
--- A fraction to the nearest whole number, a tie to the even one, by how twice the remainder compares with the divisor. Assumes nothing.
+-- A fraction that is less than a half away from a whole number is rounded to it. Assumes nothing.
 use mathlib.Core.Path.{◌≡◌, subst}
 use Prim.Native.Nat.{ℕ, suc, ◌+◌, ◌*◌, ◌/◌, ◌%◌, ◌≤◌, ◌<◌, compare, Ordering}
 use native.Mathlib.Nat.{le_antisymm, le_of_suc-le-suc, lt_of_mul-lt-mul_right, mod-lt, div-add-mod'}
@@ -9,7 +9,7 @@ use lib.Arith.{lt_of_le-ne}
 use lib.Ieee.{nearest}
 use lib.Ieee.Nearest.{closest}
 
-abbrev pub Cmp : Ordering → ℕ → ℕ → Type 0
+abbrev Cmp : Ordering → ℕ → ℕ → Type 0
 Cmp Ordering.lt a b = a < b
 Cmp Ordering.eq a b = a ≡ b
 Cmp Ordering.gt a b = b < a

@@ -1,8 +1,9 @@
-use mathlib.Core.Path.{◌≡◌, sym, ap, ◌∙◌, subst}
+use mathlib.Core.Path.{◌≡◌, refl, sym, ap, ◌∙◌, subst}
 use mathlib.Core.Bool.{true, false}
 use Prim.Native.Nat.{◌≤◌}
 use lib.IntN.{pos}
-use lib.Ieee.{Float, binary32, fits, is_nan, of_bits}
+use lib.Dec.{T}
+use lib.Ieee.{Float, nan, inf, fin, binary32, fits, is_nan, of_bits}
 use mir.Syntax.{w16}
 use mir.Val.{to_z, of_z}
 use mir.Facts.{to_z-of_z}
@@ -10,10 +11,15 @@ use Rattle.std.proofs.lemmas.Float.{T_from_true, T_from_false}
 use Rattle.pcm.specs.laws.Integers.{answered}
 use Rattle.floats.specs.Rounding.{magnitude, round_sat, rounded16, held_float}
 use Rattle.floats.specs.laws.Rounding.{round_fits}
-use Rattle.floats.proofs.Nan.{is_nan_lem}
 use Rattle.floats.proofs.Held.{Held, held}
 use Rattle.floats.proofs.Nudged.{Lowest, lowest}
 use Rattle.floats.proofs.rounded16.Goals as goal
+
+is_nan_lem : (x : Float) → is_nan x ≡ true → x ≡ nan
+unfolding is_nan
+is_nan_lem nan h = refl
+is_nan_lem (inf s) h = absurd (subst T (sym h) tt)
+is_nan_lem (fin s m e) h = absurd (subst T (sym h) tt)
 
 -- h is what is held of v
 module _ (v h : Float) (f : fits binary32 v ≡ true) (g : fits binary32 h ≡ true) (is : h ≡ held_float v) where
