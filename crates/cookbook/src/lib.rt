@@ -1,10 +1,9 @@
 // A biquad's coefficients, by the Audio EQ Cookbook (biquad.rs).
 #![tactic(auto)]
 
-ghost use Rattle.std.specs.Prelude.{◌≡◌, ◌&&◌, if◌then◌else◌};
+ghost use Rattle.std.specs.Prelude.{◌≡◌, ◌&&◌};
 ghost use Rattle.std.specs.Float.Ieee.{lt, le};
-ghost use Rattle.pcm.specs.declared.Error.TheVariants.{InvalidFormat};
-ghost use Rattle.cookbook.specs.Cookbook.{identity, alpha_of, design_settings_allowed, peak_factor_allowed, with_numerator, normalised, coefficients_of, design_verdict, design_answer, design_told, design_valued};
+ghost use Rattle.cookbook.specs.Cookbook.{identity, frequency, quality, alpha_of, design_settings_allowed, gain_allowed, cookbook, with_numerator, normalised, coefficients_of, design_verdict, design_answer, design_told, design_valued};
 
 use pcm::Error;
 
@@ -56,105 +55,103 @@ impl Coefficients {
 
     // The coefficients of a kind at a rate. The caller has worked out the sine and the cosine of w0 = 2π * f0 / rate and, for Peak,
     // a = 10^(gain_db / 40).
-    pub fn design(kind: BiquadKind, rate: u32, sine: f64, cosine: f64, a: f64) -> Result<Coefficients, Error>
+    pub fn design(
+        kind: BiquadKind,
+        rate: u32,
+        sine: f64,
+        cosine: f64,
+        a: f64,
+    ) -> Result<Coefficients, Error>
         ensures value { result ≡ design_answer kind rate sine cosine a }
         ensures told { design_told result ≡ design_valued (design_verdict kind rate sine cosine a) (coefficients_of kind sine cosine a) }
     {
-        match kind {
-            BiquadKind::LowPass { f0, q } => {
-                let alpha = alpha(sine, q);
-                let half = (1.0 - cosine) / 2.0;
-                let section = Section::with_numerator(half, 1.0 - cosine, half, cosine, alpha);
-                designed(allowed(f0, q, rate, sine, cosine), section)
-            }
-            BiquadKind::HighPass { f0, q } => {
-                let alpha = alpha(sine, q);
-                let half = (1.0 + cosine) / 2.0;
-                let section = Section::with_numerator(half, -(1.0 + cosine), half, cosine, alpha);
-                designed(allowed(f0, q, rate, sine, cosine), section)
-            }
-            BiquadKind::Peak { f0, q, gain_db: _ } => {
-                let alpha = alpha(sine, q);
-                let boost = alpha * a;
-                let section = Section::with_numerator(
-                    1.0 + boost,
-                    -2.0 * cosine,
-                    1.0 - boost,
-                    cosine,
-                    alpha / a,
-                );
-                designed(peak_allowed(f0, q, rate, sine, cosine, a), section)
-            }
-            BiquadKind::Notch { f0, q } => {
-                let alpha = alpha(sine, q);
-                let section = Section::with_numerator(1.0, -2.0 * cosine, 1.0, cosine, alpha);
-                designed(allowed(f0, q, rate, sine, cosine), section)
-            }
+        let (f0, q) = kind.settings();
+        if allowed(f0, q, rate, sine, cosine) && kind.gain_allowed(a) {
+            let section = kind.section(cosine, alpha(sine, q), a);
+            return Ok(section.normalise());
         }
+        Err(Error::InvalidFormat)
     }
 }
 
-// Where the settings are allowed, the section's coefficients.
-fn designed(allowed: bool, section: Section) -> Result<Coefficients, Error>
-    ensures { result ≡ (if allowed then Ok (normalised section) else Err InvalidFormat) }
-{
-    if !allowed {
-        return Err(Error::InvalidFormat);
+impl BiquadKind {
+    // f0 and q, which every kind has.
+    fn settings(self) -> (f32, f32)
+        ensures frequency { result.0 ≡ frequency self }
+        ensures quality { result.1 ≡ quality self }
+    {
+        match self {
+            BiquadKind::LowPass { f0, q }
+            | BiquadKind::HighPass { f0, q }
+            | BiquadKind::Peak { f0, q, .. }
+            | BiquadKind::Notch { f0, q } => (f0, q),
+        }
     }
-    Ok(section.normalise())
+
+    // Peak's a must be finite and above 0.
+    fn gain_allowed(self, a: f64) -> bool
+        ensures { result ≡ gain_allowed self a }
+    {
+        match self {
+            BiquadKind::Peak { .. } => between(a, 0.0, f64::INFINITY),
+            _ => true,
+        }
+    }
+
+    // The cookbook's six of a kind.
+    fn section(self, cosine: f64, alpha: f64, a: f64) -> Section
+        ensures { result ≡ cookbook self cosine alpha a }
+    {
+        match self {
+            BiquadKind::LowPass { .. } => {
+                let half = (1.0 - cosine) / 2.0;
+                Section::with_numerator(half, 1.0 - cosine, half, cosine, alpha)
+            }
+            BiquadKind::HighPass { .. } => {
+                let half = (1.0 + cosine) / 2.0;
+                Section::with_numerator(half, -(1.0 + cosine), half, cosine, alpha)
+            }
+            BiquadKind::Peak { .. } => {
+                let boost = alpha * a;
+                Section::with_numerator(1.0 + boost, -2.0 * cosine, 1.0 - boost, cosine, alpha / a)
+            }
+            BiquadKind::Notch { .. } => {
+                Section::with_numerator(1.0, -2.0 * cosine, 1.0, cosine, alpha)
+            }
+        }
+    }
 }
 
 // Whether the settings that every kind has make a filter; a NaN fails each test.
 fn allowed(f0: f32, q: f32, rate: u32, sine: f64, cosine: f64) -> bool
     ensures { result ≡ design_settings_allowed f0 q rate sine cosine }
 {
-    if pcm::rate_allowed(rate) {
-        if between(std::num::f32_to_f64_with_nan(f0), 0.0, (rate as f64) / 2.0) {
-            if q > 0.0 {
-                if within(cosine, -1.0, 1.0) {
-                    return within(sine, 0.0, 1.0);
-                }
-            }
-        }
-    }
-    false
-}
-
-// Peak's a must also be finite and above 0.
-fn peak_allowed(f0: f32, q: f32, rate: u32, sine: f64, cosine: f64, a: f64) -> bool
-    ensures { result ≡ (design_settings_allowed f0 q rate sine cosine && peak_factor_allowed a) }
-{
-    if allowed(f0, q, rate, sine, cosine) {
-        return between(a, 0.0, 1.0 / 0.0);
-    }
-    false
+    pcm::rate_allowed(rate)
+        && between(f64::from(f0), 0.0, f64::from(rate) / 2.0)
+        && q > 0.0
+        && within(cosine, -1.0, 1.0)
+        && within(sine, 0.0, 1.0)
 }
 
 // sine / (2 * q)
 fn alpha(sine: f64, q: f32) -> f64
     ensures { result ≡ alpha_of sine q }
 {
-    sine / (2.0 * std::num::f32_to_f64_with_nan(q))
+    sine / (2.0 * f64::from(q))
 }
 
 // low < x < high
 fn between(x: f64, low: f64, high: f64) -> bool
     ensures { result ≡ (lt low x && lt x high) }
 {
-    if low < x {
-        return x < high;
-    }
-    false
+    low < x && x < high
 }
 
 // low <= x <= high
 fn within(x: f64, low: f64, high: f64) -> bool
     ensures { result ≡ (le low x && le x high) }
 {
-    if low <= x {
-        return x <= high;
-    }
-    false
+    low <= x && x <= high
 }
 
 impl Section {

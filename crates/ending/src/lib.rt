@@ -38,19 +38,14 @@ fn resampled_to_end(r: LinearResampler, primed: bool, phase: u64, frames: usize)
 }
 
 // How many frames a stage delivers of so many and at its end, from the phase alone.
+#[tactic(auto, unfolding(crate::specs::StageEnd::frames_at_end))]
 pub fn frames_at_end(stage: Stage, frames: usize) -> usize
     requires { (frames ≤ 2400000000000) × Bounded stage.kind }
     ensures { result ≡ frames_at_end stage.kind stage.memory frames }
 {
-    let kind = stage.kind;
-    let memory = stage.memory;
-    let state = memory.resampler;
-    match kind {
-        StageKind::Gain(_) => frames,
-        StageKind::MonoToStereo => frames,
-        StageKind::StereoToMono => frames,
+    let state = stage.memory.resampler;
+    match stage.kind {
         StageKind::Resample(r) => resampled_to_end(r, state.primed, state.phase, frames),
-        StageKind::DcBlock(_) => frames,
-        StageKind::Biquad(_) => frames,
+        _ => frames,
     }
 }

@@ -1,8 +1,7 @@
-mod Fields
+mod Cast
 mod HalfUp
 mod Held
-mod Nan
+mod Library
 mod Nudged
-mod Short
 mod Ties
 mod Whole

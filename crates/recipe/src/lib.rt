@@ -131,7 +131,7 @@ fn record_of(kind: u16, left: &[u8]) -> Record
 {
     match kind {
         1 => Record::Gain {
-            q15: words::signed(words::get_u32(left, 4)),
+            q15: words::get_i32(left, 4),
         },
         2 => Record::MonoToStereo,
         3 => Record::StereoToMono,
@@ -207,7 +207,7 @@ impl Record {
         ensures { out.new ≡ sets out.old 4 (words_bytes (fields_of self)) }
     {
         match self {
-            Record::Gain { q15 } => words::put_u32(out, 4, words::bits(q15)),
+            Record::Gain { q15 } => words::put_u32(out, 4, q15.cast_unsigned()),
             Record::MonoToStereo => (),
             Record::StereoToMono => (),
             Record::Resample { in_rate, out_rate } => {

@@ -346,8 +346,8 @@ pub fn from_q15() -> bool {
     if !input::filled(&mut s) {
         return false;
     }
-    let kept = Gain::from_q15(words::signed(words::get_u32(&s, 0)));
-    output::word(words::bits(kept.q15()));
+    let kept = Gain::from_q15(words::get_i32(&s, 0));
+    output::word(kept.q15().cast_unsigned());
     true
 }
 
@@ -357,7 +357,7 @@ pub fn linear() -> bool {
         return false;
     }
     let made = Gain::linear(get_float(&s, 0));
-    output::word(words::bits(made.q15()));
+    output::word(made.q15().cast_unsigned());
     true
 }
 
@@ -381,6 +381,6 @@ pub fn sat16() -> bool {
     if !input::filled(&mut s) {
         return false;
     }
-    held(pcm::sat16(words::signed(words::get_u32(&s, 0))));
+    held(pcm::sat16(words::get_i32(&s, 0)));
     true
 }

@@ -41,9 +41,10 @@ impl SoundMemory {
     pub fn new() -> SoundMemory
         ensures { result ≡ memory_as_opened }
     {
-        let filter = FilterMemory::new();
-        let resampler = ResamplerState::new();
-        SoundMemory { filter, resampler }
+        SoundMemory {
+            filter: FilterMemory::new(),
+            resampler: ResamplerState::new(),
+        }
     }
 }
 
@@ -52,16 +53,17 @@ impl Stage {
     pub fn new(kind: StageKind) -> Stage
         ensures { result ≡ stage_as_opened kind }
     {
-        let memory = SoundMemory::new();
-        Stage { kind, memory }
+        Stage {
+            kind,
+            memory: SoundMemory::new(),
+        }
     }
 
     // The sound memory cleared.
     pub fn reset(self) -> Stage
         ensures { result ≡ stage_clear self }
     {
-        let kind = self.kind;
-        Stage::new(kind)
+        Stage::new(self.kind)
     }
 }
 
@@ -70,21 +72,19 @@ pub fn format_after(format: PcmFormat, kind: StageKind) -> PcmFormat
     ensures { result ≡ format_after format kind }
 {
     match kind {
-        StageKind::Gain(_) => format,
         StageKind::MonoToStereo => PcmFormat {
-            rate: format.rate,
             channels: 2,
+            ..format
         },
         StageKind::StereoToMono => PcmFormat {
-            rate: format.rate,
             channels: 1,
+            ..format
         },
         StageKind::Resample(r) => PcmFormat {
             rate: r.out_rate,
-            channels: format.channels,
+            ..format
         },
-        StageKind::DcBlock(_) => format,
-        StageKind::Biquad(_) => format,
+        _ => format,
     }
 }
 
@@ -92,50 +92,35 @@ pub fn format_after(format: PcmFormat, kind: StageKind) -> PcmFormat
 fn part_suits(part: u64, rate: u64) -> bool
     ensures { result ≡ (ltb 0 part && leb part rate) }
 {
-    if part == 0 {
-        return false;
-    }
-    part <= rate
+    (1..=rate).contains(&part)
 }
 
 // Are a resampler's rates within their limit, and in_r and out_r of the same ratio and no larger?
 fn rates_suit(r: LinearResampler) -> bool
     ensures { result ≡ rates_suit r }
 {
-    if pcm::rate_allowed(r.in_rate) {
-        if pcm::rate_allowed(r.out_rate) {
-            return parts_suit(r.in_rate as u64, r.out_rate as u64, r.in_r, r.out_r);
-        }
-        return false;
-    }
-    false
+    pcm::rate_allowed(r.in_rate)
+        && pcm::rate_allowed(r.out_rate)
+        && parts_suit(u64::from(r.in_rate), u64::from(r.out_rate), r.in_r, r.out_r)
 }
 
 fn parts_suit(input: u64, output: u64, in_r: u64, out_r: u64) -> bool
     requires { (input ≤ 384000) × (output ≤ 384000) }
     ensures { result ≡ ((ltb 0 in_r && leb in_r input) && ((ltb 0 out_r && leb out_r output) && eqb (in_r * output) (out_r * input))) }
 {
-    if part_suits(in_r, input) {
-        if part_suits(out_r, output) {
-            return in_r * output == out_r * input;
-        }
-        return false;
-    }
-    false
+    part_suits(in_r, input) && part_suits(out_r, output) && in_r * output == out_r * input
 }
 
 // What the block call needs of a stage that `format` reaches: settings within their limits, a format that suits, a phase below in_r.
+#[tactic(auto, unfolding(crate::specs::Rooms::stage_suits))]
 pub fn stage_suits(format: PcmFormat, stage: Stage) -> bool
     ensures { result ≡ stage_suits format stage.kind stage.memory }
 {
-    let kind = stage.kind;
-    let memory = stage.memory;
-    let state = memory.resampler;
-    match kind {
+    match stage.kind {
         StageKind::Gain(g) => g.allowed(),
         StageKind::MonoToStereo => format.channels == 1,
         StageKind::StereoToMono => format.channels == 2,
-        StageKind::Resample(r) => resampler_suits(format.rate, r, state.phase),
+        StageKind::Resample(r) => resampler_suits(format.rate, r, stage.memory.resampler.phase),
         StageKind::DcBlock(_) => true,
         StageKind::Biquad(b) => format.rate == b.rate,
     }
@@ -144,59 +129,43 @@ pub fn stage_suits(format: PcmFormat, stage: Stage) -> bool
 fn resampler_suits(rate: u32, r: LinearResampler, phase: u64) -> bool
     ensures { result ≡ (rates_suit r && (eqb rate r.in_rate && ltb phase r.in_r)) }
 {
-    if rates_suit(r) {
-        if rate == r.in_rate {
-            return phase < r.in_r;
-        }
-        return false;
-    }
-    false
+    rates_suit(r) && rate == r.in_rate && phase < r.in_r
 }
 
 // How many frames a stage delivers of so many, from the phase alone.
+#[tactic(auto, unfolding(crate::specs::Rooms::frames_out))]
 pub fn frames_out(stage: Stage, frames: usize) -> usize
     requires { (frames ≤ 2400000000000) × Bounded stage.kind }
     ensures { result ≡ frames_out stage.kind stage.memory frames }
 {
-    let kind = stage.kind;
-    let memory = stage.memory;
-    let state = memory.resampler;
-    match kind {
-        StageKind::Gain(_) => frames,
-        StageKind::MonoToStereo => frames,
-        StageKind::StereoToMono => frames,
+    let state = stage.memory.resampler;
+    match stage.kind {
         StageKind::Resample(r) => r.output_frames(state.primed, state.phase, frames),
-        StageKind::DcBlock(_) => frames,
-        StageKind::Biquad(_) => frames,
+        _ => frames,
     }
 }
 
 // The frames that a stage wants room for.
+#[tactic(auto, unfolding(crate::specs::Rooms::frames_wanted))]
 pub fn frames_wanted(kind: StageKind, frames: usize) -> usize
     requires { (frames ≤ 2400000000000) × Bounded kind }
     ensures { result ≡ frames_wanted kind frames }
 {
     match kind {
-        StageKind::Gain(_) => frames,
-        StageKind::MonoToStereo => frames,
-        StageKind::StereoToMono => frames,
         StageKind::Resample(r) => r.room_frames(frames),
-        StageKind::DcBlock(_) => frames,
-        StageKind::Biquad(_) => frames,
+        _ => frames,
     }
 }
 
 // The state as it is; that its newest frame is of two samples is what its type says.
+// Kept: what the type says of a sample is known where the sample is read, so both are read and put back.
 pub fn held_samples(state: ResamplerState) -> ResamplerState
     ensures { (result ≡ state) × Samples state.last × (length state.last ≡ 2) }
 {
-    let last = state.last;
-    let left = last[0];
-    let right = last[1];
+    let [left, right] = state.last;
     ResamplerState {
         last: [left, right],
-        phase: state.phase,
-        primed: state.primed,
+        ..state
     }
 }
 
@@ -204,12 +173,8 @@ pub fn held_samples(state: ResamplerState) -> ResamplerState
 pub fn remembers(kind: StageKind) -> bool
     ensures { result ≡ remembers kind }
 {
-    match kind {
-        StageKind::Gain(_) => false,
-        StageKind::MonoToStereo => false,
-        StageKind::StereoToMono => false,
-        StageKind::Resample(_) => true,
-        StageKind::DcBlock(_) => true,
-        StageKind::Biquad(_) => true,
-    }
+    matches!(
+        kind,
+        StageKind::Resample(_) | StageKind::DcBlock(_) | StageKind::Biquad(_)
+    )
 }

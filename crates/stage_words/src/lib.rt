@@ -34,7 +34,7 @@ fn sample_of(n: u32) -> i16
 fn sample_bits(x: i16) -> u32
     ensures { result ≡ of_z w16 x }
 {
-    words::bits(x as i32) % 65536
+    (x as i32).cast_unsigned() % 65536
 }
 
 fn flag(b: bool) -> u32
@@ -50,7 +50,7 @@ fn flag(b: bool) -> u32
 fn gain_bits(q15: i32) -> u32
     ensures { (result ≡ of_z w32 q15) × SFits w32 q15 }
 {
-    words::bits(q15)
+    q15.cast_unsigned()
 }
 
 fn float_bits(x: f32) -> u32
@@ -89,7 +89,7 @@ pub fn kind_of(w: &[u32]) -> StageKind
     let number = w[0];
     match number {
         1 => StageKind::Gain(Gain {
-            q15: words::signed(w[1]),
+            q15: w[1].cast_signed(),
         }),
         3 => StageKind::StereoToMono,
         4 => StageKind::Resample(LinearResampler {

@@ -1,11 +1,9 @@
 -- `recipe::record_of` meets its contract. Assumes nothing.
-use borrow.Author.Rules.{rules}
 use mathlib.Core.Path.{◌≡◌, sym, ap, ◌∙◌}
 use native.Mathlib.Omega.{arith}
 use Prim.Native.Nat.{ℕ, ◌+◌, ◌*◌, ◌≤◌}
 use lib.ListN.{length}
 use mir.Syntax.{w32}
-use mir.Val.{to_z}
 use Rattle.pcm.specs.laws.Integers.{answered}
 use Rattle.recipe.specs.declared.Record.TheVariants as rec
 use Rattle.words.specs.laws.Words.{word_number}
@@ -23,9 +21,7 @@ six c = let r = c.in_default.in_default-own.rest in last_kind c.args.kind c.requ
 
 returns : tie.Need-returns-in-1
 unfolding record_of
-returns c =
-    let e = c.signed.ensures in
-    rw c.in-1.is (ap rec.Gain (answered w32 c.signed.type_inv (e ∙ ap (to_z w32) c.get_u32.ensures)))
+returns c = rw c.in-1.is (ap rec.Gain (answered w32 c.get_i32.type_inv c.get_i32.ensures))
 
 returns-2 : tie.Need-returns-in-2
 unfolding record_of
@@ -37,7 +33,7 @@ returns-3 c = rw c.in-3.is
 
 returns-4 : tie.Need-returns-in-4
 unfolding record_of
-returns-4 c = rw (c.in-4.is, c.get_u32-in-4.ensures, c.get_u32-in-4-2.ensures ∙ sym (word_number 2 1 4 c.args.left.now (omega arith)))
+returns-4 c = rw (c.in-4.is, c.get_u32.ensures, c.get_u32-in-4.ensures ∙ sym (word_number 2 1 4 c.args.left.now (omega arith)))
 
 returns-5 : tie.Need-returns-in-5
 unfolding record_of
@@ -49,7 +45,6 @@ returns-6 c = rw (six c.before) c.biquad_of.ensures
 pub record_of_spec : {M : Type 1} → statement M
 record_of_spec = tie.close (tie.spec
     (λ c κs. omega (arith, room c.before.before 1 c.in-1.is))
-    (λ c κs. search rules)
     (λ c κs. omega (arith, room c.before.before 4 c.in-4.is))
     (λ c κs. omega (arith, room c.before.before.before 4 c.in-4.is))
     (λ c κs. omega (arith, room c.before.before 5 c.in-5.is))

@@ -8,4 +8,4 @@ use Rattle.stage_words.proofs.gain_bits.Statement.{statement}
 use Rattle.stage_words.proofs.gain_bits.Tie as tie
 
 pub gain_bits_spec : {M : Type 1} → statement M
-gain_bits_spec = tie.close (tie.spec (λ c κs. search rules) (λ c. let f = c.ranges.q15 in (c.bits.ensures ∙ ap (of_z w32) (read_back f), f)))
+gain_bits_spec = tie.close (tie.spec (λ c κs. search rules) (λ c. let f = c.ranges.q15 in (c.cast_unsigned.ensures ∙ ap (of_z w32) (read_back f), f)))

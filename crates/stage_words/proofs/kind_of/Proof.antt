@@ -11,7 +11,7 @@ use Rattle.stage_words.proofs.kind_of.Tie as tie
 
 returns : tie.Need-returns-in-1
 unfolding kind_of
-returns c = rw (c.in-1.is, answered w32 c.signed.type_inv c.signed.ensures)
+returns c = rw (c.in-1.is, answered w32 c.cast_signed.type_inv c.cast_signed.ensures)
 
 returns-2 : tie.Need-returns-in-3
 unfolding kind_of

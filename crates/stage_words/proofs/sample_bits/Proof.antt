@@ -13,7 +13,7 @@ use Rattle.stage_words.proofs.sample_bits.Tie as tie
 returns : tie.Need-returns
 returns c =
     let e : to_z w32 (of_z w32 (to_z w16 (of_z w16 c.args.x))) ≡ c.args.x = settled w32 (read_back c.ranges.x) (sfits_widen tt c.ranges.x) in
-    ap (λ (n : ℕ). n % 65536) (c.bits.ensures ∙ ap (of_z w32) e) ∙ low_half c.args.x c.ranges.x
+    ap (λ (n : ℕ). n % 65536) (c.cast_unsigned.ensures ∙ ap (of_z w32) e) ∙ low_half c.args.x c.ranges.x
 
 pub sample_bits_spec : {M : Type 1} → statement M
 sample_bits_spec = tie.close (tie.spec

@@ -45,7 +45,7 @@ returns c =
     let p = c.before.before in
     let q = c.in-Gain.q15 in
     let e : to_z w32 (of_z w32 q) ≡ q = search rules in
-    stored p.before.before.before.before.before c.in-Gain.is _ (c.put_u32.ensures ∙ rw (c.bits.ensures, e))
+    stored p.before.before.before.before.before c.in-Gain.is _ (c.put_u32.ensures ∙ rw (c.cast_unsigned.ensures, e))
 
 returns-4 : tie.Need-returns-in-Resample
 returns-4 c =
