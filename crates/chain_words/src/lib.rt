@@ -20,12 +20,19 @@ use stage::{SoundMemory, Stage, StageKind};
 pub const CHAIN_WORDS: usize = 152;
 
 // ---- the stage at a place
+// Its eighteen words.
+fn words_at(w: &[u32], i: usize) -> &[u32; 18]
+    requires { (i < 8) × (152 ≤ length w.now) }
+    ensures { result.now ≡ take 18 (place_of w.now i) }
+{
+    w[8 + 18 * i..].first_chunk().unwrap()
+}
+
 pub fn stage_at(w: &[u32], i: usize) -> Stage
     requires { (i < 8) × (152 ≤ length w.now) }
     ensures { result ≡ stage_at w.now i }
 {
-    let place = 8 + 18 * i;
-    stage_words::stage_of(&w[place..])
+    stage_words::stage_of(words_at(w, i))
 }
 
 // Its kind, and apart from that what it remembers.
@@ -33,24 +40,24 @@ pub fn kind_at(w: &[u32], i: usize) -> StageKind
     requires { (i < 8) × (152 ≤ length w.now) }
     ensures { (result ≡ (stage_at w.now i).kind) × SmallKind result }
 {
-    let place = 8 + 18 * i;
-    stage_words::kind_of(&w[place..])
+    stage_words::kind_of(words_at(w, i))
 }
 
 pub fn memory_at(w: &[u32], i: usize) -> SoundMemory
     requires { (i < 8) × (152 ≤ length w.now) }
     ensures { (result ≡ (stage_at w.now i).memory) × (result.resampler.phase < 2 ^ 32) }
 {
-    let place = 8 + 18 * i;
-    stage_words::memory_of(&w[place..])
+    stage_words::memory_of(words_at(w, i))
 }
 
 pub fn put_stage_at(w: &mut [u32], i: usize, s: Stage)
     requires { (i < 8) × (152 ≤ length w.old) }
     ensures { (w.new ≡ sets w.old (8 + 18 * i) (words_of_stage s)) × HeldStage s }
 {
-    let place = 8 + 18 * i;
-    stage_words::put_stage(&mut w[place..], s);
+    let Some(words) = w[8 + 18 * i..].first_chunk_mut() else {
+        unreachable!()
+    };
+    stage_words::put_stage(words, s);
 }
 
 // The whole memory; kind and settings stay.
@@ -58,8 +65,10 @@ pub fn put_memory_at(w: &mut [u32], i: usize, m: SoundMemory)
     requires { (i < 8) × (152 ≤ length w.old) }
     ensures { (w.new ≡ sets w.old (8 + 18 * i + 7) (memory_words m)) × HeldFilter m.filter × TwoSamples m.resampler.last }
 {
-    let place = 8 + 18 * i;
-    stage_words::put_memory(&mut w[place..], m);
+    let Some(words) = w[8 + 18 * i..].first_chunk_mut() else {
+        unreachable!()
+    };
+    stage_words::put_memory(words, m);
 }
 
 // Only what a stage of this kind remembers.
@@ -67,23 +76,13 @@ pub fn put_held_at(w: &mut [u32], i: usize, kind: StageKind, m: SoundMemory)
     requires { (i < 8) × (152 ≤ length w.old) }
     ensures { (w.new ≡ sets w.old (8 + 18 * i + held_at kind) (held_words kind m)) × HeldBy kind m }
 {
-    let place = 8 + 18 * i;
+    let Some(words) = w[8 + 18 * i..].first_chunk_mut() else {
+        unreachable!()
+    };
     match kind {
-        StageKind::Gain(_) => {}
-        StageKind::MonoToStereo => {}
-        StageKind::StereoToMono => {}
-        StageKind::Resample(_) => {
-            let state = m.resampler;
-            stage_words::put_state(&mut w[place..], state)
-        }
-        StageKind::DcBlock(_) => {
-            let filter = m.filter;
-            stage_words::put_filter(&mut w[place..], filter)
-        }
-        StageKind::Biquad(_) => {
-            let filter = m.filter;
-            stage_words::put_filter(&mut w[place..], filter)
-        }
+        StageKind::Resample(_) => stage_words::put_state(words, m.resampler),
+        StageKind::DcBlock(_) | StageKind::Biquad(_) => stage_words::put_filter(words, m.filter),
+        _ => {}
     }
 }
 
@@ -93,7 +92,7 @@ pub fn counter_at(w: &[u32], i: usize) -> u64
     requires { i + 1 < length w.now }
     ensures { result ≡ counter_at w.now i }
 {
-    (w[i] as u64) + 4294967296 * (w[i + 1] as u64)
+    u64::from(w[i]) + 4294967296 * u64::from(w[i + 1])
 }
 
 // How many stages are in use.
@@ -118,28 +117,17 @@ fn stages_of(w: &[u32]) -> [Stage; 8]
     requires { 152 ≤ length w.now }
     ensures { result ≡ (chain_at w.now).stages }
 {
-    [
-        stage_at(w, 0),
-        stage_at(w, 1),
-        stage_at(w, 2),
-        stage_at(w, 3),
-        stage_at(w, 4),
-        stage_at(w, 5),
-        stage_at(w, 6),
-        stage_at(w, 7),
-    ]
+    std::array::from_fn(|i| stage_at(w, i))
 }
 
 fn chain_at(w: &[u32]) -> Pipeline
     requires { 152 ≤ length w.now }
     ensures { (result ≡ chain_at w.now) × All Small result.stages }
 {
-    let stages = stages_of(w);
-    let format = format_of(w);
     Pipeline {
-        stages,
-        count: w[0] as usize,
-        format,
+        stages: stages_of(w),
+        count: count_of(w),
+        format: format_of(w),
         blocks: counter_at(w, 3),
         empty_blocks: counter_at(w, 5),
     }
@@ -148,10 +136,7 @@ fn chain_at(w: &[u32]) -> Pipeline
 fn kind_known(number: u32) -> bool
     ensures { result ≡ of_stage number }
 {
-    if number == 0 {
-        return false;
-    }
-    number <= 6
+    (1..=6).contains(&number)
 }
 
 // Are the kinds of the first `count` stages such as a recipe knows?
@@ -159,28 +144,14 @@ fn kinds_known(w: &[u32], count: usize) -> bool
     requires { (count ≤ 8) × (152 ≤ length w.now) }
     ensures { result ≡ kinds_known w.now 0 count }
 {
-    let mut i: usize = 0;
-    while i < count {
-        if !kind_known(w[8 + 18 * i]) {
-            return false;
-        }
-        i += 1;
-    }
-    true
+    (0..count).all(|i| kind_known(w[8 + 18 * i]))
 }
 
 // Do the words stand for a chain?
 pub fn stand(w: &[u32]) -> bool
     ensures { result ≡ stands w.now }
 {
-    if w.len() < CHAIN_WORDS {
-        return false;
-    }
-    let count = w[0] as usize;
-    if count > 8 {
-        return false;
-    }
-    kinds_known(w, count)
+    w.len() >= CHAIN_WORDS && count_of(w) <= 8 && kinds_known(w, count_of(w))
 }
 
 // What every call refuses with 1.
@@ -204,10 +175,7 @@ fn no_chain() -> Pipeline
 pub fn chain_of(w: &[u32]) -> Pipeline
     ensures { (result ≡ chain_of_words w.now) × All Small result.stages }
 {
-    if stand(w) {
-        return chain_at(w);
-    }
-    no_chain()
+    if stand(w) { chain_at(w) } else { no_chain() }
 }
 
 fn put_counter(w: &mut [u32], i: usize, n: u64)
@@ -215,7 +183,7 @@ fn put_counter(w: &mut [u32], i: usize, n: u64)
     ensures { w.new ≡ sets w.old i (n % 2 ^ 32 ∷ n / 2 ^ 32 ∷ []) }
 {
     w[i] = (n % 4294967296) as u32;
-    w[i + 1] = (n / 4294967296) as u32;
+    w[i + 1] = (n >> 32) as u32;
 }
 
 // Both counters; the rest of the chain stays.
@@ -231,10 +199,9 @@ fn put_head(w: &mut [u32], chain: Pipeline)
     requires { 152 ≤ length w.old }
     ensures { w.new ≡ sets w.old 0 (head_words chain) }
 {
-    let format = chain.format;
     w[0] = (chain.count % 4294967296) as u32;
-    w[1] = format.rate;
-    w[2] = format.channels as u32;
+    w[1] = chain.format.rate;
+    w[2] = u32::from(chain.format.channels);
     put_counters(w, chain.blocks, chain.empty_blocks);
     w[7] = 0;
 }
@@ -244,13 +211,9 @@ pub fn put_chain(w: &mut [u32], chain: Pipeline)
     requires { 152 ≤ length w.old }
     ensures { (w.new ≡ written (words_of chain) w.old) × All HeldStage chain.stages }
 {
-    let stages = chain.stages;
     put_head(w, chain);
-    let mut i: usize = 0;
-    while i < 8 {
-        let s = stages[i];
-        put_stage_at(w, i, s);
-        i += 1;
+    for (i, s) in chain.stages.iter().enumerate() {
+        put_stage_at(w, i, *s);
     }
 }
 
@@ -259,21 +222,15 @@ pub fn put_sound(w: &mut [u32], chain: Pipeline)
     requires { (chain.count ≤ 8) × (152 ≤ length w.old) }
     ensures { (w.new ≡ with_sound w.old (stages_of chain) chain.blocks chain.empty_blocks) × All HeldMemory (stages_of chain) }
 {
-    let stages = chain.stages;
-    let count = chain.count;
-    put_memories(w, stages, count);
+    put_memories(w, &chain.stages[..chain.count]);
     put_counters(w, chain.blocks, chain.empty_blocks);
 }
 
-fn put_memories(w: &mut [u32], stages: [Stage; 8], count: usize)
-    requires { (count ≤ 8) × (152 ≤ length w.old) }
-    ensures { (w.new ≡ kept_words w.old 0 (take count stages)) × All HeldMemory (take count stages) }
+fn put_memories(w: &mut [u32], stages: &[Stage])
+    requires { (length stages.now ≤ 8) × (152 ≤ length w.old) }
+    ensures { (w.new ≡ kept_words w.old 0 stages.now) × All HeldMemory stages.now }
 {
-    let mut i: usize = 0;
-    while i < count {
-        let s = stages[i];
-        let memory = s.memory;
-        put_memory_at(w, i, memory);
-        i += 1;
+    for (i, s) in stages.iter().enumerate() {
+        put_memory_at(w, i, s.memory);
     }
 }
