@@ -1,13 +1,12 @@
 -- A run that is written to the part of a slice from its k-th word on, and a chain's array. Assumes nothing.
-use mathlib.Core.Path.{◌≡◌, sym, ap, ap₂, ◌∙◌}
-use mathlib.Core.List.{List, [], ◌∷◌, ◌++◌, append-nil}
-use Prim.Native.Nat.{ℕ, zero, suc, ◌+◌, ◌-◌, ◌≤◌, ◌<◌}
+use mathlib.Core.Path.{◌≡◌, refl, sym, ap, ap₂, ◌∙◌}
+use mathlib.Core.List.{List, [], ◌∷◌, ◌++◌}
+use Prim.Native.Nat.{ℕ, zero, suc, ◌+◌, ◌≤◌, ◌<◌}
 use native.Mathlib.Numerals.{add-one}
 use native.Mathlib.Omega.{arith}
-use borrow.Author.Rules.{part_to_end}
 use borrow.Rule.Slice.PartMut.{put_mid}
-use lib.ListN.{length, get_or, take, drop, set, length-drop, drop_of_length-le, take-append-drop}
-use lib.Seq.{sets, sets-eq, drop-set-add, take-set-le}
+use lib.ListN.{length, get_or, take, drop, set, take-append-drop}
+use lib.Seq.{sets, sets-eq, drop-set-add, drop-set-lt, take-set-le}
 use Rattle.pcm.specs.Samples.{All}
 use Rattle.pcm.specs.Frames.{written}
 
@@ -19,11 +18,26 @@ run_in_part (v ∷ vs) w k j =
     ∙ run_in_part vs (set w (k + j) v) k (suc j)
     ∙ ap (λ (n : ℕ). sets (set w (k + j) v) n vs) e
 
--- from the j-th word of the part on is from the (k + j)-th of the whole
-pub part_run : (vs w l : List ℕ) (k j : ℕ) → l ≡ sets (take (length w - k) (drop k w)) j vs → put_mid k (length w - k) w l ≡ sets w (k + j) vs
-part_run vs w l k j h =
-    let n : drop (length w - k) (drop k w) ≡ [] = drop_of_length-le (drop k w) {i = length w - k} (omega (arith, length-drop k w)) in
-    ap (λ (x : List ℕ). take k w ++ x) (rw n (append-nil l) ∙ h ∙ ap (λ (x : List ℕ). sets x j vs) (part_to_end w k)) ∙ run_in_part vs w k j
+-- the first n words, and those past them
+run_in_front : (vs x : List ℕ) (n j : ℕ) → j + length vs ≤ n → sets (take n x) j vs ++ drop n x ≡ sets x j vs
+run_in_front [] x n j h = take-append-drop n x
+run_in_front (v ∷ vs) x n j h =
+    ap₂ (λ (a b : List ℕ). sets a (suc j) vs ++ b) (set_front x n j) (sym (drop-set-lt n x j v (omega arith)))
+    ∙ run_in_front vs (set x j v) n (suc j) (omega arith)
+  where
+    set_front : (x : List ℕ) (n j : ℕ) → set (take n x) j v ≡ take n (set x j v)
+    set_front [] zero j = refl
+    set_front [] (suc n) j = refl
+    set_front (y ∷ x) zero zero = refl
+    set_front (y ∷ x) zero (suc j) = refl
+    set_front (y ∷ x) (suc n) zero = refl
+    set_front (y ∷ x) (suc n) (suc j) = ap (λ (l : List ℕ). y ∷ l) (set_front x n j)
+
+-- n words from the k-th on, of which a run from the j-th on was written
+pub part_run : (vs w l : List ℕ) (k n j at : ℕ) → l ≡ sets (take n (drop k w)) j vs → j + length vs ≤ n → k + j ≡ at → put_mid k n w l ≡ sets w at vs
+part_run vs w l k n j at e h q =
+    ap (λ (x : List ℕ). take k w ++ (x ++ drop n (drop k w))) e
+    ∙ ap (λ (x : List ℕ). take k w ++ x) (run_in_front vs (drop k w) n j h) ∙ run_in_part vs w k j ∙ ap (λ (m : ℕ). sets w m vs) q
 
 pub all_next : {A : Type 0} (P : A → Type 0) (l : List A) (i : ℕ) (d : A) → i < length l → All P (take i l) → P (get_or l i d) → All P (take (i + 1) l)
 all_next {A} P l i d h a p = rw add-one (go l i h a p)

@@ -3,6 +3,7 @@
 
 ghost use Rattle.std.specs.Prelude.{◌≡◌, [], ◌∷◌, ◌+◌, ◌*◌, ◌/◌, ◌%◌, ◌≤◌, ◌<◌, ◌^◌, length, take};
 ghost use Rattle.std.proofs.lemmas.List.Edits.{sets};
+ghost use borrow.Rule.Slice.PartMut.{put_mid};
 ghost use Rattle.pcm.specs.Samples.{All};
 ghost use Rattle.pcm.specs.Frames.{written};
 ghost use Rattle.recipe.specs.Records.{of_stage};
@@ -10,7 +11,7 @@ ghost use Rattle.pipeline.specs.WritingBack.{stages_of};
 ghost use Rattle.stage_words.specs.Layout.{memory_words, words_of_stage, held_at, held_words, word};
 ghost use Rattle.stage_words.specs.Storable.{TwoSamples, HeldFilter, HeldStage, HeldMemory, HeldBy, SmallKind, Small};
 ghost use Rattle.chain_words.specs.Kept.{kept_words, with_sound};
-ghost use Rattle.chain_words.specs.Layout.{counter_words, head_words, words_of, stage_at, format_of, counter_at, chain_at, kinds_known, stands, no_chain, chain_of_words};
+ghost use Rattle.chain_words.specs.Layout.{place_of, counter_words, head_words, words_of, stage_at, format_of, counter_at, chain_at, kinds_known, stands, no_chain, chain_of_words};
 
 use pcm::PcmFormat;
 use pipeline::Pipeline;
@@ -25,7 +26,17 @@ fn words_at(w: &[u32], i: usize) -> &[u32; 18]
     requires { (i < 8) × (152 ≤ length w.now) }
     ensures { result.now ≡ take 18 (place_of w.now i) }
 {
-    w[8 + 18 * i..].first_chunk().unwrap()
+    let place = 8 + 18 * i;
+    w[place..place + 18].as_array().unwrap()
+}
+
+// They are read, and written back, as one array: what is written through an array that a part of a slice lends is not known afterwards.
+fn put_words_at(w: &mut [u32], i: usize, words: &[u32; 18])
+    requires { (i < 8) × (152 ≤ length w.old) }
+    ensures { w.new ≡ put_mid (8 + 18 * i) 18 w.old words.now }
+{
+    let place = 8 + 18 * i;
+    w[place..place + 18].copy_from_slice(words);
 }
 
 pub fn stage_at(w: &[u32], i: usize) -> Stage
@@ -54,10 +65,9 @@ pub fn put_stage_at(w: &mut [u32], i: usize, s: Stage)
     requires { (i < 8) × (152 ≤ length w.old) }
     ensures { (w.new ≡ sets w.old (8 + 18 * i) (words_of_stage s)) × HeldStage s }
 {
-    let Some(words) = w[8 + 18 * i..].first_chunk_mut() else {
-        unreachable!()
-    };
-    stage_words::put_stage(words, s);
+    let mut words = *words_at(w, i);
+    stage_words::put_stage(&mut words, s);
+    put_words_at(w, i, &words);
 }
 
 // The whole memory; kind and settings stay.
@@ -65,10 +75,9 @@ pub fn put_memory_at(w: &mut [u32], i: usize, m: SoundMemory)
     requires { (i < 8) × (152 ≤ length w.old) }
     ensures { (w.new ≡ sets w.old (8 + 18 * i + 7) (memory_words m)) × HeldFilter m.filter × TwoSamples m.resampler.last }
 {
-    let Some(words) = w[8 + 18 * i..].first_chunk_mut() else {
-        unreachable!()
-    };
-    stage_words::put_memory(words, m);
+    let mut words = *words_at(w, i);
+    stage_words::put_memory(&mut words, m);
+    put_words_at(w, i, &words);
 }
 
 // Only what a stage of this kind remembers.
@@ -76,14 +85,9 @@ pub fn put_held_at(w: &mut [u32], i: usize, kind: StageKind, m: SoundMemory)
     requires { (i < 8) × (152 ≤ length w.old) }
     ensures { (w.new ≡ sets w.old (8 + 18 * i + held_at kind) (held_words kind m)) × HeldBy kind m }
 {
-    let Some(words) = w[8 + 18 * i..].first_chunk_mut() else {
-        unreachable!()
-    };
-    match kind {
-        StageKind::Resample(_) => stage_words::put_state(words, m.resampler),
-        StageKind::DcBlock(_) | StageKind::Biquad(_) => stage_words::put_filter(words, m.filter),
-        _ => {}
-    }
+    let mut words = *words_at(w, i);
+    stage_words::put_held(&mut words, kind, m);
+    put_words_at(w, i, &words);
 }
 
 // ---- the chain
@@ -117,7 +121,11 @@ fn stages_of(w: &[u32]) -> [Stage; 8]
     requires { 152 ≤ length w.now }
     ensures { result ≡ (chain_at w.now).stages }
 {
-    std::array::from_fn(|i| stage_at(w, i))
+    let mut stages = [Stage::new(StageKind::MonoToStereo); 8];
+    for i in 0..8 {
+        stages[i] = stage_at(w, i);
+    }
+    stages
 }
 
 fn chain_at(w: &[u32]) -> Pipeline
@@ -140,14 +148,21 @@ fn kind_known(number: u32) -> bool
 }
 
 // Are the kinds of the first `count` stages such as a recipe knows?
+#[tactic(auto, using(crate::proofs::Chains::each_known, crate::proofs::Chains::some_unknown))]
 fn kinds_known(w: &[u32], count: usize) -> bool
     requires { (count ≤ 8) × (152 ≤ length w.now) }
     ensures { result ≡ kinds_known w.now 0 count }
 {
-    (0..count).all(|i| kind_known(w[8 + 18 * i]))
+    for i in 0..count {
+        if !kind_known(w[8 + 18 * i]) {
+            return false;
+        }
+    }
+    true
 }
 
 // Do the words stand for a chain?
+#[tactic(auto, unfolding(crate::specs::Layout::stands))]
 pub fn stand(w: &[u32]) -> bool
     ensures { result ≡ stands w.now }
 {
@@ -172,6 +187,7 @@ fn no_chain() -> Pipeline
 }
 
 // The chain that the words stand for; where they stand for none, one that every call refuses with 1.
+#[tactic(auto, unfolding(crate::specs::Layout::chain_of_words), using(crate::specs::laws::Chains::stands_long, crate::proofs::Chains::no_chain_small))]
 pub fn chain_of(w: &[u32]) -> Pipeline
     ensures { (result ≡ chain_of_words w.now) × All Small result.stages }
 {
@@ -195,6 +211,7 @@ pub fn put_counters(w: &mut [u32], blocks: u64, empty_blocks: u64)
     put_counter(w, 5, empty_blocks);
 }
 
+#[tactic(auto, unfolding(crate::specs::Layout::head_words))]
 fn put_head(w: &mut [u32], chain: Pipeline)
     requires { 152 ≤ length w.old }
     ensures { w.new ≡ sets w.old 0 (head_words chain) }
@@ -218,6 +235,7 @@ pub fn put_chain(w: &mut [u32], chain: Pipeline)
 }
 
 // The memories of the stages in use and both counters, all that a block or a reset alters; every other word stays.
+#[tactic(auto, unfolding(crate::specs::Kept::with_sound))]
 pub fn put_sound(w: &mut [u32], chain: Pipeline)
     requires { (chain.count ≤ 8) × (152 ≤ length w.old) }
     ensures { (w.new ≡ with_sound w.old (stages_of chain) chain.blocks chain.empty_blocks) × All HeldMemory (stages_of chain) }

@@ -6,8 +6,8 @@ ghost use Rattle.std.proofs.lemmas.List.Edits.{sets};
 ghost use Rattle.std.specs.Float.{binary32};
 ghost use Rattle.std.specs.Float.Ieee.{fits};
 ghost use Rattle.floats.specs.Floats.{pattern_of};
-ghost use Rattle.stage_words.specs.Layout.{setting_words, float_word, filter_words, state_words, memory_words, words_of_stage, word, float_at, kind_of, filter_of, state_of, memory_of, stage_of};
-ghost use Rattle.stage_words.specs.Storable.{TwoFloats, TwoSamples, HeldFilter, HeldKind, HeldStage};
+ghost use Rattle.stage_words.specs.Layout.{setting_words, float_word, filter_words, state_words, memory_words, words_of_stage, held_at, held_words, word, float_at, kind_of, filter_of, state_of, memory_of, stage_of};
+ghost use Rattle.stage_words.specs.Storable.{TwoFloats, TwoSamples, HeldFilter, HeldKind, HeldStage, HeldBy};
 
 use biquad::{Biquad, CoefficientBits};
 use dc_block::DcBlock;
@@ -166,6 +166,18 @@ pub fn put_memory(w: &mut [u32; 18], m: SoundMemory)
 {
     put_filter(w, m.filter);
     put_state(w, m.resampler);
+}
+
+// Only what a stage of this kind remembers.
+#[tactic(auto, unfolding(crate::specs::Layout::held_at, crate::specs::Layout::held_words))]
+pub fn put_held(w: &mut [u32; 18], kind: StageKind, m: SoundMemory)
+    ensures { (w.new ≡ sets w.old (held_at kind) (held_words kind m)) × HeldBy kind m }
+{
+    match kind {
+        StageKind::Resample(_) => put_state(w, m.resampler),
+        StageKind::DcBlock(_) | StageKind::Biquad(_) => put_filter(w, m.filter),
+        _ => {}
+    }
 }
 
 #[tactic(auto, unfolding(crate::specs::Layout::words_of_stage))]
