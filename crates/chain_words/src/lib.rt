@@ -20,6 +20,9 @@ use stage::{SoundMemory, Stage, StageKind};
 // The words of a chain.
 pub const CHAIN_WORDS: usize = 152;
 
+// Kept: slices of at least 152 words in place of `&[u32; 152]`. The callers hold what C hands over, of any length, and write through it
+// from stage to stage; each would have to cut the array out again at every call.
+
 // ---- the stage at a place
 // Its eighteen words.
 fn words_at(w: &[u32], i: usize) -> &[u32; 18]
@@ -30,7 +33,8 @@ fn words_at(w: &[u32], i: usize) -> &[u32; 18]
     w[place..place + 18].as_array().unwrap()
 }
 
-// They are read, and written back, as one array: what is written through an array that a part of a slice lends is not known afterwards.
+// They are read, and written back, as one array: of a part of a slice that lends an array to be written the proof knows no word
+// afterwards.
 fn put_words_at(w: &mut [u32], i: usize, words: &[u32; 18])
     requires { (i < 8) × (152 ≤ length w.old) }
     ensures { w.new ≡ put_mid (8 + 18 * i) 18 w.old words.now }
@@ -117,6 +121,7 @@ pub fn format_of(w: &[u32]) -> PcmFormat
     }
 }
 
+// Kept: a `for` over stages not in use in place of `std::array::from_fn`, of which the proof did not close.
 fn stages_of(w: &[u32]) -> [Stage; 8]
     requires { 152 ≤ length w.now }
     ensures { result ≡ (chain_at w.now).stages }
