@@ -3,18 +3,19 @@
 
 ghost use Rattle.std.specs.Prelude.{◌≡◌, [], ◌∷◌, ◌+◌, ◌*◌, ◌/◌, ◌%◌, ◌≤◌, ◌<◌, ◌^◌, length, take};
 ghost use Rattle.std.proofs.lemmas.List.Edits.{sets};
-ghost use borrow.Rule.Slice.PartMut.{put_mid};
 ghost use Rattle.pcm.specs.Samples.{All};
 ghost use Rattle.pcm.specs.Frames.{written};
 ghost use Rattle.recipe.specs.Records.{of_stage};
 ghost use Rattle.pipeline.specs.WritingBack.{stages_of};
-ghost use Rattle.stage_words.specs.Layout.{memory_words, words_of_stage, held_at, held_words, word};
+ghost use Rattle.stage_words.specs.Layout.{filter_words, state_words, memory_words, words_of_stage, held_at, held_words, word};
 ghost use Rattle.stage_words.specs.Storable.{TwoSamples, HeldFilter, HeldStage, HeldMemory, HeldBy, SmallKind, Small};
 ghost use Rattle.chain_words.specs.Kept.{kept_words, with_sound};
 ghost use Rattle.chain_words.specs.Layout.{place_of, counter_words, head_words, words_of, stage_at, format_of, counter_at, chain_at, kinds_known, stands, no_chain, chain_of_words};
 
+use filters::FilterMemory;
 use pcm::PcmFormat;
 use pipeline::Pipeline;
+use rates::ResamplerState;
 use stage::{SoundMemory, Stage, StageKind};
 
 // The words of a chain.
@@ -31,16 +32,6 @@ fn words_at(w: &[u32], i: usize) -> &[u32; 18]
 {
     let place = 8 + 18 * i;
     w[place..place + 18].as_array().unwrap()
-}
-
-// They are read, and written back, as one array: of a part of a slice that lends an array to be written the proof knows no word
-// afterwards.
-fn put_words_at(w: &mut [u32], i: usize, words: &[u32; 18])
-    requires { (i < 8) × (152 ≤ length w.old) }
-    ensures { w.new ≡ put_mid (8 + 18 * i) 18 w.old words.now }
-{
-    let place = 8 + 18 * i;
-    w[place..place + 18].copy_from_slice(words);
 }
 
 pub fn stage_at(w: &[u32], i: usize) -> Stage
@@ -65,33 +56,55 @@ pub fn memory_at(w: &[u32], i: usize) -> SoundMemory
     stage_words::memory_of(words_at(w, i))
 }
 
+#[tactic(auto, unfolding(stage_words::specs::Layout::words_of_stage))]
 pub fn put_stage_at(w: &mut [u32], i: usize, s: Stage)
     requires { (i < 8) × (152 ≤ length w.old) }
     ensures { (w.new ≡ sets w.old (8 + 18 * i) (words_of_stage s)) × HeldStage s }
 {
-    let mut words = *words_at(w, i);
-    stage_words::put_stage(&mut words, s);
-    put_words_at(w, i, &words);
+    let place = 8 + 18 * i;
+    w[place..place + 7].copy_from_slice(&stage_words::setting_words(s.kind));
+    put_memory_at(w, i, s.memory);
 }
 
 // The whole memory; kind and settings stay.
+#[tactic(auto, unfolding(stage_words::specs::Layout::memory_words, stage_words::specs::Layout::filter_words))]
 pub fn put_memory_at(w: &mut [u32], i: usize, m: SoundMemory)
     requires { (i < 8) × (152 ≤ length w.old) }
     ensures { (w.new ≡ sets w.old (8 + 18 * i + 7) (memory_words m)) × HeldFilter m.filter × TwoSamples m.resampler.last }
 {
-    let mut words = *words_at(w, i);
-    stage_words::put_memory(&mut words, m);
-    put_words_at(w, i, &words);
+    put_filter_at(w, i, m.filter);
+    put_state_at(w, i, m.resampler);
 }
 
 // Only what a stage of this kind remembers.
+#[tactic(auto, unfolding(stage_words::specs::Layout::held_at, stage_words::specs::Layout::held_words))]
 pub fn put_held_at(w: &mut [u32], i: usize, kind: StageKind, m: SoundMemory)
     requires { (i < 8) × (152 ≤ length w.old) }
     ensures { (w.new ≡ sets w.old (8 + 18 * i + held_at kind) (held_words kind m)) × HeldBy kind m }
 {
-    let mut words = *words_at(w, i);
-    stage_words::put_held(&mut words, kind, m);
-    put_words_at(w, i, &words);
+    match kind {
+        StageKind::Resample(_) => put_state_at(w, i, m.resampler),
+        StageKind::DcBlock(_) | StageKind::Biquad(_) => put_filter_at(w, i, m.filter),
+        _ => {}
+    }
+}
+
+#[tactic(auto, unfolding(stage_words::specs::Layout::filter_words))]
+fn put_filter_at(w: &mut [u32], i: usize, m: FilterMemory)
+    requires { (i < 8) × (152 ≤ length w.old) }
+    ensures { (w.new ≡ sets w.old (8 + 18 * i + 7) (filter_words m)) × HeldFilter m }
+{
+    let place = 8 + 18 * i + 7;
+    w[place..place + 8].copy_from_slice(&stage_words::filter_words(m));
+}
+
+#[tactic(auto, unfolding(stage_words::specs::Layout::state_words))]
+fn put_state_at(w: &mut [u32], i: usize, s: ResamplerState)
+    requires { (i < 8) × (152 ≤ length w.old) }
+    ensures { (w.new ≡ sets w.old (8 + 18 * i + 15) (state_words s)) × TwoSamples s.last }
+{
+    let place = 8 + 18 * i + 15;
+    w[place..place + 3].copy_from_slice(&stage_words::state_words(s));
 }
 
 // ---- the chain

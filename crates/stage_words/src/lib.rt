@@ -2,12 +2,11 @@
 #![tactic(auto)]
 
 ghost use Rattle.std.specs.Prelude.{◌≡◌, [], ◌∷◌, ◌<◌, T};
-ghost use Rattle.std.proofs.lemmas.List.Edits.{sets};
 ghost use Rattle.std.specs.Float.{binary32};
 ghost use Rattle.std.specs.Float.Ieee.{fits};
 ghost use Rattle.floats.specs.Floats.{pattern_of};
-ghost use Rattle.stage_words.specs.Layout.{setting_words, float_word, filter_words, state_words, memory_words, words_of_stage, held_at, held_words, word, float_at, kind_of, filter_of, state_of, memory_of, stage_of};
-ghost use Rattle.stage_words.specs.Storable.{TwoFloats, TwoSamples, HeldFilter, HeldKind, HeldStage, HeldBy};
+ghost use Rattle.stage_words.specs.Layout.{setting_words, float_word, filter_words, state_words, word, float_at, kind_of, filter_of, state_of, memory_of, stage_of};
+ghost use Rattle.stage_words.specs.Storable.{TwoFloats, TwoSamples, HeldFilter, HeldKind};
 
 use biquad::{Biquad, CoefficientBits};
 use dc_block::DcBlock;
@@ -105,7 +104,7 @@ fn float_bits(x: f32) -> u32
 
 // The kind's seven words. That its numbers are of 32 bits is what its type says.
 #[tactic(auto, unfolding(crate::specs::Layout::setting_words))]
-fn setting_words(kind: StageKind) -> [u32; 7]
+pub fn setting_words(kind: StageKind) -> [u32; 7]
     ensures { (result ≡ setting_words kind) × HeldKind kind }
 {
     match kind {
@@ -131,59 +130,32 @@ fn setting_words(kind: StageKind) -> [u32; 7]
 
 // A filter's memory.
 #[tactic(auto, unfolding(crate::specs::Layout::filter_words))]
-pub fn put_filter(w: &mut [u32; 18], m: FilterMemory)
-    ensures { (w.new ≡ sets w.old 7 (filter_words m)) × HeldFilter m }
+pub fn filter_words(m: FilterMemory) -> [u32; 8]
+    ensures { (result ≡ filter_words m) × HeldFilter m }
 {
-    put_pair(w, 7, m.x1);
-    put_pair(w, 9, m.x2);
-    put_pair(w, 11, m.y1);
-    put_pair(w, 13, m.y2);
+    let [x1_left, x1_right] = pair_words(m.x1);
+    let [x2_left, x2_right] = pair_words(m.x2);
+    let [y1_left, y1_right] = pair_words(m.y1);
+    let [y2_left, y2_right] = pair_words(m.y2);
+    [
+        x1_left, x1_right, x2_left, x2_right, y1_left, y1_right, y2_left, y2_right,
+    ]
 }
 
-// The floats of two channels to the words i and i + 1.
-fn put_pair(w: &mut [u32; 18], i: usize, p: [f32; 2])
-    requires { i < 17 }
-    ensures { (w.new ≡ sets w.old i (float_word p 0 ∷ float_word p 1 ∷ [])) × TwoFloats p }
+// The floats of two channels.
+fn pair_words(p: [f32; 2]) -> [u32; 2]
+    ensures { (result ≡ float_word p 0 ∷ float_word p 1 ∷ []) × TwoFloats p }
 {
     let [left, right] = p;
-    w[i..i + 2].copy_from_slice(&[float_bits(left), float_bits(right)]);
+    [float_bits(left), float_bits(right)]
 }
 
 // A resampler's state.
 #[tactic(auto, unfolding(crate::specs::Layout::state_words))]
-pub fn put_state(w: &mut [u32; 18], s: ResamplerState)
-    ensures { (w.new ≡ sets w.old 15 (state_words s)) × TwoSamples s.last }
+pub fn state_words(s: ResamplerState) -> [u32; 3]
+    ensures { (result ≡ state_words s) × TwoSamples s.last }
 {
     let [left, right] = s.last.map(|x| u32::from(x.cast_unsigned()));
     let phase = (s.phase % 4294967296) as u32;
-    w[15..].copy_from_slice(&[left + 65536 * right, phase, u32::from(s.primed)]);
-}
-
-// A whole memory.
-#[tactic(auto, unfolding(crate::specs::Layout::memory_words, crate::specs::Layout::filter_words))]
-pub fn put_memory(w: &mut [u32; 18], m: SoundMemory)
-    ensures { (w.new ≡ sets w.old 7 (memory_words m)) × HeldFilter m.filter × TwoSamples m.resampler.last }
-{
-    put_filter(w, m.filter);
-    put_state(w, m.resampler);
-}
-
-// Only what a stage of this kind remembers.
-#[tactic(auto, unfolding(crate::specs::Layout::held_at, crate::specs::Layout::held_words))]
-pub fn put_held(w: &mut [u32; 18], kind: StageKind, m: SoundMemory)
-    ensures { (w.new ≡ sets w.old (held_at kind) (held_words kind m)) × HeldBy kind m }
-{
-    match kind {
-        StageKind::Resample(_) => put_state(w, m.resampler),
-        StageKind::DcBlock(_) | StageKind::Biquad(_) => put_filter(w, m.filter),
-        _ => {}
-    }
-}
-
-#[tactic(auto, unfolding(crate::specs::Layout::words_of_stage))]
-pub fn put_stage(w: &mut [u32; 18], s: Stage)
-    ensures { (w.new ≡ sets w.old 0 (words_of_stage s)) × HeldStage s }
-{
-    w[..7].copy_from_slice(&setting_words(s.kind));
-    put_memory(w, s.memory);
+    [left + 65536 * right, phase, u32::from(s.primed)]
 }
