@@ -56,7 +56,6 @@ pub fn memory_at(w: &[u32], i: usize) -> SoundMemory
     stage_words::memory_of(words_at(w, i))
 }
 
-#[tactic(auto, unfolding(stage_words::specs::Layout::words_of_stage))]
 pub fn put_stage_at(w: &mut [u32], i: usize, s: Stage)
     requires { (i < 8) × (152 ≤ length w.old) }
     ensures { (w.new ≡ sets w.old (8 + 18 * i) (words_of_stage s)) × HeldStage s }
@@ -67,7 +66,6 @@ pub fn put_stage_at(w: &mut [u32], i: usize, s: Stage)
 }
 
 // The whole memory; kind and settings stay.
-#[tactic(auto, unfolding(stage_words::specs::Layout::memory_words, stage_words::specs::Layout::filter_words))]
 pub fn put_memory_at(w: &mut [u32], i: usize, m: SoundMemory)
     requires { (i < 8) × (152 ≤ length w.old) }
     ensures { (w.new ≡ sets w.old (8 + 18 * i + 7) (memory_words m)) × HeldFilter m.filter × TwoSamples m.resampler.last }
@@ -89,7 +87,6 @@ pub fn put_held_at(w: &mut [u32], i: usize, kind: StageKind, m: SoundMemory)
     }
 }
 
-#[tactic(auto, unfolding(stage_words::specs::Layout::filter_words))]
 fn put_filter_at(w: &mut [u32], i: usize, m: FilterMemory)
     requires { (i < 8) × (152 ≤ length w.old) }
     ensures { (w.new ≡ sets w.old (8 + 18 * i + 7) (filter_words m)) × HeldFilter m }
@@ -98,7 +95,6 @@ fn put_filter_at(w: &mut [u32], i: usize, m: FilterMemory)
     w[place..place + 8].copy_from_slice(&stage_words::filter_words(m));
 }
 
-#[tactic(auto, unfolding(stage_words::specs::Layout::state_words))]
 fn put_state_at(w: &mut [u32], i: usize, s: ResamplerState)
     requires { (i < 8) × (152 ≤ length w.old) }
     ensures { (w.new ≡ sets w.old (8 + 18 * i + 15) (state_words s)) × TwoSamples s.last }
