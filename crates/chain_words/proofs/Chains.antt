@@ -1,8 +1,9 @@
 -- Laws of whole chains: words that were written for a chain stand for it. Assumes nothing.
-use mathlib.Core.Path.{◌≡◌, refl, sym, ap, ◌∙◌}
-use mathlib.Core.Bool.{Bool, true, ◌&&◌}
+use mathlib.Core.Path.{◌≡◌, refl, sym, ap, ◌∙◌, subst}
+use mathlib.Core.Bool.{Bool, true, false, ◌&&◌}
+use Rattle.std.proofs.Math.Decide.{dec_lt}
 use mathlib.Core.List.{List, [], ◌∷◌, ◌++◌, append_assoc, append-nil}
-use Prim.Native.Nat.{ℕ, zero, suc, ◌+◌, ◌-◌, ◌*◌, ◌≤◌, ◌<◌}
+use Prim.Native.Nat.{ℕ, zero, suc, ◌+◌, ◌*◌, ◌≤◌, ◌<◌}
 use native.Mathlib.Numerals.{add-one}
 use native.Mathlib.Omega.{arith}
 use lib.ListN.{length, get_or, take}
@@ -32,13 +33,25 @@ pub no_stages : stages_words [] ≡ []
 unfolding stages_words
 no_stages = refl
 
-pub kinds_next : (w : List ℕ) (i n : ℕ) (b : Bool) → i < n → of_stage (word w (8 + 18 * i)) ≡ b → kinds_known w i (n - i) ≡ (b && kinds_known w (i + 1) (n - (i + 1)))
-unfolding kinds_known
-kinds_next w i n b h e = let m : n - i ≡ suc (n - (i + 1)) = omega arith in rw (m, e, add-one)
+-- the kinds are known where each of them is
+module _ (w : List ℕ) where
+  pub each_known : (i n : ℕ) → ((k : ℕ) → i ≤ k → k < i + n → of_stage (word w (8 + 18 * k)) ≡ true) → kinds_known w i n ≡ true
+  unfolding kinds_known
+  each_known i zero h = refl
+  each_known i (suc n) h = rw (h i (omega arith) (omega arith)) (each_known (suc i) n (λ k a b. h k (omega arith) (omega arith)))
 
-pub kinds_end : (w : List ℕ) (i n : ℕ) → n ≤ i → kinds_known w i (n - i) ≡ true
-unfolding kinds_known
-kinds_end w i n h = let m : n - i ≡ 0 = omega arith in rw m
+  pub some_unknown : (i n k : ℕ) → i ≤ k → k < i + n → of_stage (word w (8 + 18 * k)) ≡ false → kinds_known w i n ≡ false
+  unfolding kinds_known
+  some_unknown i zero k a b e = absurd (let z : ⊥ = omega arith in z)
+  some_unknown i (suc n) k a b e = go (dec_lt i k) (λ l. some_unknown (suc i) n k (omega arith) (omega arith) e)
+    where
+      later : (c : Bool) → kinds_known w (suc i) n ≡ false → (c && kinds_known w (suc i) n) ≡ false
+      later true q = q
+      later false q = refl
+
+      go : Dec (i < k) → (i < k → kinds_known w (suc i) n ≡ false) → (of_stage (word w (8 + 18 * i)) && kinds_known w (suc i) n) ≡ false
+      go (yes l) f = later (of_stage (word w (8 + 18 * i))) (f l)
+      go (no l) f = let q : k ≡ i = omega arith in rw (subst (λ (j : ℕ). of_stage (word w (8 + 18 * j)) ≡ false) q e)
 
 -- ---- a chain of words is small
 pub place_small : (w : List ℕ) (i : ℕ) → ((j : ℕ) → Fits w32 (word w j)) → (j : ℕ) → word (place_of w i) j < 4294967296

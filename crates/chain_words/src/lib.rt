@@ -7,25 +7,38 @@ ghost use Rattle.pcm.specs.Samples.{All};
 ghost use Rattle.pcm.specs.Frames.{written};
 ghost use Rattle.recipe.specs.Records.{of_stage};
 ghost use Rattle.pipeline.specs.WritingBack.{stages_of};
-ghost use Rattle.stage_words.specs.Layout.{memory_words, words_of_stage, held_at, held_words, word};
+ghost use Rattle.stage_words.specs.Layout.{filter_words, state_words, memory_words, words_of_stage, held_at, held_words, word};
 ghost use Rattle.stage_words.specs.Storable.{TwoSamples, HeldFilter, HeldStage, HeldMemory, HeldBy, SmallKind, Small};
 ghost use Rattle.chain_words.specs.Kept.{kept_words, with_sound};
-ghost use Rattle.chain_words.specs.Layout.{counter_words, head_words, words_of, stage_at, format_of, counter_at, chain_at, kinds_known, stands, no_chain, chain_of_words};
+ghost use Rattle.chain_words.specs.Layout.{place_of, counter_words, head_words, words_of, stage_at, format_of, counter_at, chain_at, kinds_known, stands, no_chain, chain_of_words};
 
+use filters::FilterMemory;
 use pcm::PcmFormat;
 use pipeline::Pipeline;
+use rates::ResamplerState;
 use stage::{SoundMemory, Stage, StageKind};
 
 // The words of a chain.
 pub const CHAIN_WORDS: usize = 152;
 
+// Kept: slices of at least 152 words in place of `&[u32; 152]`. The callers hold what C hands over, of any length, and write through it
+// from stage to stage; each would have to cut the array out again at every call.
+
 // ---- the stage at a place
+// Its eighteen words.
+fn words_at(w: &[u32], i: usize) -> &[u32; 18]
+    requires { (i < 8) × (152 ≤ length w.now) }
+    ensures { result.now ≡ take 18 (place_of w.now i) }
+{
+    let place = 8 + 18 * i;
+    w[place..place + 18].as_array().unwrap()
+}
+
 pub fn stage_at(w: &[u32], i: usize) -> Stage
     requires { (i < 8) × (152 ≤ length w.now) }
     ensures { result ≡ stage_at w.now i }
 {
-    let place = 8 + 18 * i;
-    stage_words::stage_of(&w[place..])
+    stage_words::stage_of(words_at(w, i))
 }
 
 // Its kind, and apart from that what it remembers.
@@ -33,16 +46,14 @@ pub fn kind_at(w: &[u32], i: usize) -> StageKind
     requires { (i < 8) × (152 ≤ length w.now) }
     ensures { (result ≡ (stage_at w.now i).kind) × SmallKind result }
 {
-    let place = 8 + 18 * i;
-    stage_words::kind_of(&w[place..])
+    stage_words::kind_of(words_at(w, i))
 }
 
 pub fn memory_at(w: &[u32], i: usize) -> SoundMemory
     requires { (i < 8) × (152 ≤ length w.now) }
     ensures { (result ≡ (stage_at w.now i).memory) × (result.resampler.phase < 2 ^ 32) }
 {
-    let place = 8 + 18 * i;
-    stage_words::memory_of(&w[place..])
+    stage_words::memory_of(words_at(w, i))
 }
 
 pub fn put_stage_at(w: &mut [u32], i: usize, s: Stage)
@@ -50,7 +61,8 @@ pub fn put_stage_at(w: &mut [u32], i: usize, s: Stage)
     ensures { (w.new ≡ sets w.old (8 + 18 * i) (words_of_stage s)) × HeldStage s }
 {
     let place = 8 + 18 * i;
-    stage_words::put_stage(&mut w[place..], s);
+    w[place..place + 7].copy_from_slice(&stage_words::setting_words(s.kind));
+    put_memory_at(w, i, s.memory);
 }
 
 // The whole memory; kind and settings stay.
@@ -58,33 +70,37 @@ pub fn put_memory_at(w: &mut [u32], i: usize, m: SoundMemory)
     requires { (i < 8) × (152 ≤ length w.old) }
     ensures { (w.new ≡ sets w.old (8 + 18 * i + 7) (memory_words m)) × HeldFilter m.filter × TwoSamples m.resampler.last }
 {
-    let place = 8 + 18 * i;
-    stage_words::put_memory(&mut w[place..], m);
+    put_filter_at(w, i, m.filter);
+    put_state_at(w, i, m.resampler);
 }
 
 // Only what a stage of this kind remembers.
+#[tactic(auto, unfolding(stage_words::specs::Layout::held_at, stage_words::specs::Layout::held_words))]
 pub fn put_held_at(w: &mut [u32], i: usize, kind: StageKind, m: SoundMemory)
     requires { (i < 8) × (152 ≤ length w.old) }
     ensures { (w.new ≡ sets w.old (8 + 18 * i + held_at kind) (held_words kind m)) × HeldBy kind m }
 {
-    let place = 8 + 18 * i;
     match kind {
-        StageKind::Gain(_) => {}
-        StageKind::MonoToStereo => {}
-        StageKind::StereoToMono => {}
-        StageKind::Resample(_) => {
-            let state = m.resampler;
-            stage_words::put_state(&mut w[place..], state)
-        }
-        StageKind::DcBlock(_) => {
-            let filter = m.filter;
-            stage_words::put_filter(&mut w[place..], filter)
-        }
-        StageKind::Biquad(_) => {
-            let filter = m.filter;
-            stage_words::put_filter(&mut w[place..], filter)
-        }
+        StageKind::Resample(_) => put_state_at(w, i, m.resampler),
+        StageKind::DcBlock(_) | StageKind::Biquad(_) => put_filter_at(w, i, m.filter),
+        _ => {}
     }
+}
+
+fn put_filter_at(w: &mut [u32], i: usize, m: FilterMemory)
+    requires { (i < 8) × (152 ≤ length w.old) }
+    ensures { (w.new ≡ sets w.old (8 + 18 * i + 7) (filter_words m)) × HeldFilter m }
+{
+    let place = 8 + 18 * i + 7;
+    w[place..place + 8].copy_from_slice(&stage_words::filter_words(m));
+}
+
+fn put_state_at(w: &mut [u32], i: usize, s: ResamplerState)
+    requires { (i < 8) × (152 ≤ length w.old) }
+    ensures { (w.new ≡ sets w.old (8 + 18 * i + 15) (state_words s)) × TwoSamples s.last }
+{
+    let place = 8 + 18 * i + 15;
+    w[place..place + 3].copy_from_slice(&stage_words::state_words(s));
 }
 
 // ---- the chain
@@ -93,7 +109,7 @@ pub fn counter_at(w: &[u32], i: usize) -> u64
     requires { i + 1 < length w.now }
     ensures { result ≡ counter_at w.now i }
 {
-    (w[i] as u64) + 4294967296 * (w[i + 1] as u64)
+    u64::from(w[i]) + 4294967296 * u64::from(w[i + 1])
 }
 
 // How many stages are in use.
@@ -114,32 +130,26 @@ pub fn format_of(w: &[u32]) -> PcmFormat
     }
 }
 
+// Kept: a `for` over stages not in use in place of `std::array::from_fn`, of which the proof did not close.
 fn stages_of(w: &[u32]) -> [Stage; 8]
     requires { 152 ≤ length w.now }
     ensures { result ≡ (chain_at w.now).stages }
 {
-    [
-        stage_at(w, 0),
-        stage_at(w, 1),
-        stage_at(w, 2),
-        stage_at(w, 3),
-        stage_at(w, 4),
-        stage_at(w, 5),
-        stage_at(w, 6),
-        stage_at(w, 7),
-    ]
+    let mut stages = [Stage::new(StageKind::MonoToStereo); 8];
+    for i in 0..8 {
+        stages[i] = stage_at(w, i);
+    }
+    stages
 }
 
 fn chain_at(w: &[u32]) -> Pipeline
     requires { 152 ≤ length w.now }
     ensures { (result ≡ chain_at w.now) × All Small result.stages }
 {
-    let stages = stages_of(w);
-    let format = format_of(w);
     Pipeline {
-        stages,
-        count: w[0] as usize,
-        format,
+        stages: stages_of(w),
+        count: count_of(w),
+        format: format_of(w),
         blocks: counter_at(w, 3),
         empty_blocks: counter_at(w, 5),
     }
@@ -148,39 +158,29 @@ fn chain_at(w: &[u32]) -> Pipeline
 fn kind_known(number: u32) -> bool
     ensures { result ≡ of_stage number }
 {
-    if number == 0 {
-        return false;
-    }
-    number <= 6
+    (1..=6).contains(&number)
 }
 
 // Are the kinds of the first `count` stages such as a recipe knows?
+#[tactic(auto, using(crate::proofs::Chains::each_known, crate::proofs::Chains::some_unknown))]
 fn kinds_known(w: &[u32], count: usize) -> bool
     requires { (count ≤ 8) × (152 ≤ length w.now) }
     ensures { result ≡ kinds_known w.now 0 count }
 {
-    let mut i: usize = 0;
-    while i < count {
+    for i in 0..count {
         if !kind_known(w[8 + 18 * i]) {
             return false;
         }
-        i += 1;
     }
     true
 }
 
 // Do the words stand for a chain?
+#[tactic(auto, unfolding(crate::specs::Layout::stands))]
 pub fn stand(w: &[u32]) -> bool
     ensures { result ≡ stands w.now }
 {
-    if w.len() < CHAIN_WORDS {
-        return false;
-    }
-    let count = w[0] as usize;
-    if count > 8 {
-        return false;
-    }
-    kinds_known(w, count)
+    w.len() >= CHAIN_WORDS && count_of(w) <= 8 && kinds_known(w, count_of(w))
 }
 
 // What every call refuses with 1.
@@ -201,13 +201,11 @@ fn no_chain() -> Pipeline
 }
 
 // The chain that the words stand for; where they stand for none, one that every call refuses with 1.
+#[tactic(auto, unfolding(crate::specs::Layout::chain_of_words), using(crate::specs::laws::Chains::stands_long, crate::proofs::Chains::no_chain_small))]
 pub fn chain_of(w: &[u32]) -> Pipeline
     ensures { (result ≡ chain_of_words w.now) × All Small result.stages }
 {
-    if stand(w) {
-        return chain_at(w);
-    }
-    no_chain()
+    if stand(w) { chain_at(w) } else { no_chain() }
 }
 
 fn put_counter(w: &mut [u32], i: usize, n: u64)
@@ -215,7 +213,7 @@ fn put_counter(w: &mut [u32], i: usize, n: u64)
     ensures { w.new ≡ sets w.old i (n % 2 ^ 32 ∷ n / 2 ^ 32 ∷ []) }
 {
     w[i] = (n % 4294967296) as u32;
-    w[i + 1] = (n / 4294967296) as u32;
+    w[i + 1] = (n >> 32) as u32;
 }
 
 // Both counters; the rest of the chain stays.
@@ -227,14 +225,14 @@ pub fn put_counters(w: &mut [u32], blocks: u64, empty_blocks: u64)
     put_counter(w, 5, empty_blocks);
 }
 
+#[tactic(auto, unfolding(crate::specs::Layout::head_words))]
 fn put_head(w: &mut [u32], chain: Pipeline)
     requires { 152 ≤ length w.old }
     ensures { w.new ≡ sets w.old 0 (head_words chain) }
 {
-    let format = chain.format;
     w[0] = (chain.count % 4294967296) as u32;
-    w[1] = format.rate;
-    w[2] = format.channels as u32;
+    w[1] = chain.format.rate;
+    w[2] = u32::from(chain.format.channels);
     put_counters(w, chain.blocks, chain.empty_blocks);
     w[7] = 0;
 }
@@ -244,36 +242,27 @@ pub fn put_chain(w: &mut [u32], chain: Pipeline)
     requires { 152 ≤ length w.old }
     ensures { (w.new ≡ written (words_of chain) w.old) × All HeldStage chain.stages }
 {
-    let stages = chain.stages;
     put_head(w, chain);
-    let mut i: usize = 0;
-    while i < 8 {
-        let s = stages[i];
-        put_stage_at(w, i, s);
-        i += 1;
+    for (i, s) in chain.stages.iter().enumerate() {
+        put_stage_at(w, i, *s);
     }
 }
 
 // The memories of the stages in use and both counters, all that a block or a reset alters; every other word stays.
+#[tactic(auto, unfolding(crate::specs::Kept::with_sound))]
 pub fn put_sound(w: &mut [u32], chain: Pipeline)
     requires { (chain.count ≤ 8) × (152 ≤ length w.old) }
     ensures { (w.new ≡ with_sound w.old (stages_of chain) chain.blocks chain.empty_blocks) × All HeldMemory (stages_of chain) }
 {
-    let stages = chain.stages;
-    let count = chain.count;
-    put_memories(w, stages, count);
+    put_memories(w, &chain.stages[..chain.count]);
     put_counters(w, chain.blocks, chain.empty_blocks);
 }
 
-fn put_memories(w: &mut [u32], stages: [Stage; 8], count: usize)
-    requires { (count ≤ 8) × (152 ≤ length w.old) }
-    ensures { (w.new ≡ kept_words w.old 0 (take count stages)) × All HeldMemory (take count stages) }
+fn put_memories(w: &mut [u32], stages: &[Stage])
+    requires { (length stages.now ≤ 8) × (152 ≤ length w.old) }
+    ensures { (w.new ≡ kept_words w.old 0 stages.now) × All HeldMemory stages.now }
 {
-    let mut i: usize = 0;
-    while i < count {
-        let s = stages[i];
-        let memory = s.memory;
-        put_memory_at(w, i, memory);
-        i += 1;
+    for (i, s) in stages.iter().enumerate() {
+        put_memory_at(w, i, s.memory);
     }
 }

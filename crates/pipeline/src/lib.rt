@@ -99,61 +99,43 @@ impl Pipeline {
         ensures all { record { answer = result; out = out.new } ≡ write_call self out.old }
         ensures told { write_told result ≡ told_of_writing (write_verdict self (length out.old)) (length (recipe_of (stages_of self))) }
     {
-        let count = self.count;
-        if count > 8 {
+        if self.count > 8 {
             return Err(Error::InvalidFormat);
         }
-        let stages = self.stages;
-        let needed = writing::recipe_size(stages, count);
+        let stages = &self.stages[..self.count];
+        let needed = writing::recipe_size(stages);
         pcm::require_room(out, needed)?;
-        writing::write_stages(stages, count, out);
+        writing::write_stages(stages, out);
         Ok(needed)
     }
 
     // The format that leaves the last stage.
+    #[tactic(auto, unfolding(crate::specs::Reset::output_format), using(crate::proofs::ResetLaws::leaving_none, crate::proofs::ResetLaws::leaving_next, std::proofs::lemmas::List::take_all))]
     pub fn output_format(self) -> PcmFormat
         ensures { result ≡ output_format self }
     {
-        let count = self.count;
-        let first = self.format;
-        if count > 8 {
-            return first;
+        if self.count > 8 {
+            return self.format;
         }
-        let stages = self.stages;
-        let mut leaving = first;
-        let mut passed: usize = 0;
-        while passed < count {
-            let s = stages[passed];
-            let kind = s.kind;
-            leaving = stage::format_after(leaving, kind);
-            passed += 1;
+        let mut leaving = self.format;
+        for s in &self.stages[..self.count] {
+            leaving = stage::format_after(leaving, s.kind);
         }
         leaving
     }
 
     // The sound memory of each stage cleared, the counters left alone.
+    #[tactic(auto, unfolding(crate::specs::Reset::reset_call), using(crate::proofs::ResetLaws::cleared_none, crate::proofs::ResetLaws::cleared_next, crate::proofs::ResetLaws::cleared_all))]
     pub fn reset(self) -> Pipeline
         ensures { result ≡ reset_call self }
     {
-        let count = self.count;
-        if count > 8 {
+        if self.count > 8 {
             return self;
         }
         let mut stages = self.stages;
-        let mut cleared: usize = 0;
-        while cleared < count {
-            let s = stages[cleared];
-            let quiet = s.reset();
-            stages[cleared] = quiet;
-            cleared += 1;
+        for s in &mut stages[..self.count] {
+            *s = s.reset();
         }
-        let format = self.format;
-        Pipeline {
-            stages,
-            count,
-            format,
-            blocks: self.blocks,
-            empty_blocks: self.empty_blocks,
-        }
+        Pipeline { stages, ..self }
     }
 }

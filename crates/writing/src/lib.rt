@@ -1,7 +1,7 @@
 // The records of a chain's stages, and their bytes.
 #![tactic(auto)]
 
-ghost use Rattle.std.specs.Prelude.{◌≡◌, ◌≤◌, length, take};
+ghost use Rattle.std.specs.Prelude.{◌≡◌, ◌≤◌, length};
 ghost use Rattle.pcm.specs.Frames.{written};
 ghost use Rattle.writing.specs.WritingBack.{record_of_stage, recipe_of};
 
@@ -21,42 +21,36 @@ fn record_of(kind: StageKind) -> Record
             out_rate: r.out_rate,
         },
         StageKind::DcBlock(b) => Record::DcBlock { corner: b.corner },
-        StageKind::Biquad(b) => {
-            let bits = b.bits;
-            Record::Biquad { rate: b.rate, bits }
-        }
+        StageKind::Biquad(b) => Record::Biquad {
+            rate: b.rate,
+            bits: b.bits,
+        },
     }
 }
 
-// How many bytes the first `count` stages take.
-pub fn recipe_size(stages: [Stage; 8], count: usize) -> usize
-    requires { count ≤ 8 }
-    ensures { result ≡ length (recipe_of (take count stages)) }
+// How many bytes the stages take.
+#[tactic(auto, unfolding(crate::specs::WritingBack::recipe_of), using(crate::proofs::WritingBack::size_next, crate::proofs::WritingBack::record_small))]
+pub fn recipe_size(stages: &[Stage]) -> usize
+    requires { length stages.now ≤ 8 }
+    ensures { result ≡ length (recipe_of stages.now) }
 {
     let mut size: usize = 0;
-    let mut i: usize = 0;
-    while i < count {
-        let s = stages[i];
-        let kind = s.kind;
-        size += record_of(kind).size();
-        i += 1;
+    for s in stages {
+        size += record_of(s.kind).size();
     }
     size
 }
 
-// The records of the first `count` stages, one after another, at the front of out.
-pub fn write_stages(stages: [Stage; 8], count: usize, out: &mut [u8])
-    requires { (count ≤ 8) × (length (recipe_of (take count stages)) ≤ length out.old) }
-    ensures { out.new ≡ written (recipe_of (take count stages)) out.old }
+// The records of the stages, one after another, at the front of out.
+#[tactic(auto, unfolding(crate::specs::WritingBack::recipe_of), using(crate::proofs::WritingBack::next_within))]
+pub fn write_stages(stages: &[Stage], out: &mut [u8])
+    requires { length (recipe_of stages.now) ≤ length out.old }
+    ensures { out.new ≡ written (recipe_of stages.now) out.old }
 {
     let mut at: usize = 0;
-    let mut i: usize = 0;
-    while i < count {
-        let s = stages[i];
-        let kind = s.kind;
-        let next = record_of(kind);
+    for s in stages {
+        let next = record_of(s.kind);
         next.write(&mut out[at..]);
         at += next.size();
-        i += 1;
     }
 }

@@ -1,7 +1,7 @@
 -- Laws of reading: a stage is what its eighteen words say. Assumes nothing.
-use Rattle.std.specs.Prelude.{◌≡◌, List, length}
+use Rattle.std.specs.Prelude.{◌≡◌, List, length, take}
 use Rattle.std.proofs.Math.Path.{refl}
-use Rattle.std.proofs.Common.{ap₂, ◌∙◌, arith, length-append}
+use Rattle.std.proofs.Common.{ap₂, ◌∙◌, arith, length-append, get_or-take}
 use Prim.Native.Nat.{ℕ, zero, suc, ◌+◌, ◌≤◌, ◌<◌}
 use Rattle.filters.specs.declared.FilterMemory.{FilterMemory}
 use Rattle.rates.specs.declared.ResamplerState.{ResamplerState}
@@ -60,6 +60,10 @@ memory_same a b h =
 
 pub stage_same : (a b : List ℕ) → ((j : ℕ) → j < 18 → word a j ≡ word b j) → stage_of a ≡ stage_of b
 stage_same a b h = ap₂ (λ (k : StageKind) (m : SoundMemory). record { kind = k; memory = m }) (kind_same a b (λ j l. h j (omega arith))) (memory_same a b (λ j l k. h j k))
+
+-- and no word past them
+pub stage_front : (w : List ℕ) → stage_of (take 18 w) ≡ stage_of w
+stage_front w = stage_same (take 18 w) w (λ j h. get_or-take 18 w j 0 h)
 
 -- ---- a stage of words is small
 module _ (w : List ℕ) (h : (i : ℕ) → word w i < 4294967296) where
