@@ -1,15 +1,18 @@
 -- A stage's turn at the end, in its two parts: what arrives, and the last frame. Assumes nothing.
 use mathlib.Core.Path.{◌≡◌, refl, sym, ap, ap₂, ◌∙◌, subst}
 use mathlib.Core.List.{List, [], ◌∷◌, ◌++◌}
-use Prim.Native.Nat.{ℕ, ◌+◌, ◌-◌, ◌*◌, ◌/◌, ◌≤◌}
+use Prim.Native.Nat.{ℕ, ◌+◌, ◌-◌, ◌*◌, ◌/◌, ◌≤◌, ◌<◌}
 use native.Mathlib.Nat.{zero-mul}
 use native.Mathlib.Omega.{arith}
-use lib.ListN.{length, take, drop, length-append, length-drop}
+use lib.ListN.{length, take, drop, get_or, length-append, length-drop}
+use mir.Syntax.{w8}
+use mir.Val.{Fits}
 use borrow.Rule.Slice.PartMut.{put_mid}
 use borrow.Author.Rules.{part_to_end}
 use Rattle.pcm.specs.declared.PcmFormat.{PcmFormat}
 use Rattle.pcm.specs.Frames.{Frame, FrameOf, FramesOf, frames_of, bytes_of, written}
-use Rattle.pcm.specs.laws.Frames.{length_frames, length_bytes, frames-nil, bytes-append, all_append, length_written, written-nil}
+use Rattle.pcm.specs.laws.Samples.{all_by_index}
+use Rattle.pcm.specs.laws.Frames.{frames_are_frames, length_frames, length_bytes, frames-nil, bytes-append, all_append, length_written, written-nil}
 use Rattle.pcm.specs.laws.Written.{written_part}
 use Rattle.stage.specs.declared.Stage.{Stage}
 use Rattle.stage.specs.declared.StageKind.{StageKind}
@@ -23,6 +26,10 @@ use Rattle.turns.specs.Turns.{Makes}
 use Rattle.ending.specs.StageEnd.{last_of, stage_end}
 use Rattle.ending.specs.laws.StageEnd.{stage_end_count}
 use Rattle.end_turns.specs.EndTurns.{Fronted, ServedToEnd, ServesToEnd}
+
+-- bytes are frames
+pub bytes_frames : (ch : ℕ) (src : List ℕ) → ((i : ℕ) → Fits w8 (get_or src i 0)) → FramesOf ch (frames_of ch src)
+bytes_frames ch src fits = frames_are_frames ch src (all_by_index (λ (b : ℕ). b < 256) 0 src (λ i h. (fits i).fits))
 
 no_bytes : (l : List ℕ) → length l ≡ 0 → l ≡ []
 no_bytes [] e = refl

@@ -3,7 +3,7 @@
 
 ghost use Rattle.std.specs.Prelude.{[], ◌∷◌, ◌*◌, ◌≤◌, ◌<◌, length, take};
 ghost use Rattle.pcm.specs.Frames.{FramesOf, frames_of};
-ghost use Rattle.turns.specs.Turns.{Takes, Makes};
+ghost use Rattle.turns.specs.Turns.{Makes};
 ghost use Rattle.ending.specs.ResamplerEnd.{resampler_end};
 ghost use Rattle.ending.specs.StageEnd.{last_of};
 ghost use Rattle.end_turns.specs.EndTurns.{Fronted, ServedToEnd, ServesToEnd};
@@ -13,91 +13,19 @@ use rates::{LinearResampler, ResamplerState};
 use stage::{SoundMemory, Stage, StageKind};
 use turns::Applied;
 
-// What a stage makes of the frames that arrive stands at the front of `out`. The block call's `turns::turn` does the same between two
-// halves; it has no caller but that loop, of which it then becomes a part.
-fn taken(format: PcmFormat, s: Stage, input: &[u8], out: &mut [u8]) -> Applied
-    requires { Takes format s input.now out.old }
-    ensures { Makes format s result.memory result.len result.clipped input.now out.old out.new }
-{
-    let kind = s.kind;
-    let memory = s.memory;
-    let filter = memory.filter;
-    let resampler = memory.resampler;
-    let channels = format.channels as usize;
-    let len = input.len();
-    match kind {
-        StageKind::Gain(g) => {
-            let clipped = g.process(input, out);
-            Applied {
-                memory,
-                len,
-                clipped,
-            }
-        }
-        StageKind::MonoToStereo => {
-            channels::mono_to_stereo(input, out);
-            Applied {
-                memory,
-                len: len * 2,
-                clipped: 0,
-            }
-        }
-        StageKind::StereoToMono => {
-            channels::stereo_to_mono(input, out);
-            Applied {
-                memory,
-                len: len / 2,
-                clipped: 0,
-            }
-        }
-        StageKind::Resample(r) => {
-            let held = stage::held_samples(resampler);
-            let t = resample::process(r, held, channels, input, out);
-            let resampler = t.state;
-            let memory = SoundMemory { filter, resampler };
-            Applied {
-                memory,
-                len: t.frames * (channels * 2),
-                clipped: 0,
-            }
-        }
-        StageKind::DcBlock(d) => {
-            let t = d.process(input, out, channels, filter);
-            let filter = t.memory;
-            let memory = SoundMemory { filter, resampler };
-            Applied {
-                memory,
-                len,
-                clipped: t.clipped,
-            }
-        }
-        StageKind::Biquad(f) => {
-            let t = f.process(input, out, channels, filter);
-            let filter = t.memory;
-            let memory = SoundMemory { filter, resampler };
-            Applied {
-                memory,
-                len,
-                clipped: t.clipped,
-            }
-        }
-    }
-}
-
-// The same, where nothing may arrive.
+// What a stage makes of the frames that arrive, of which there may be none.
 fn arrived(format: PcmFormat, s: Stage, input: &[u8], out: &mut [u8]) -> Applied
     requires { ServedToEnd format s input.now out.old }
     ensures { Makes format s result.memory result.len result.clipped input.now out.old out.new }
 {
     if input.len() == 0 {
-        let memory = s.memory;
         return Applied {
-            memory,
+            memory: s.memory,
             len: 0,
             clipped: 0,
         };
     }
-    taken(format, s, input, out)
+    turns::stage_turn(format, &s, input, out)
 }
 
 // The first samples of a frame to the front of `out`: how many bytes.
@@ -105,8 +33,7 @@ fn put_frame(last: [i16; 2], channels: usize, out: &mut [u8]) -> usize
     requires { ((0 < channels) × (channels ≤ 2)) × (channels * 2 ≤ length out.old) }
     ensures { Fronted (take channels last ∷ []) out.old out.new result }
 {
-    let left = last[0];
-    let right = last[1];
+    let [left, right] = last;
     pcm::put_i16(out, 0, left);
     if channels == 1 {
         return 2;
@@ -120,17 +47,10 @@ fn put_held(r: LinearResampler, s: ResamplerState, channels: usize, out: &mut [u
     requires { ((0 < channels) × (channels ≤ 2)) × (length (resampler_end channels r s) * (channels * 2) ≤ length out.old) }
     ensures { Fronted (resampler_end channels r s) out.old out.new result }
 {
-    if r.in_rate == r.out_rate {
+    if r.in_rate == r.out_rate || !s.primed || s.phase != 0 {
         return 0;
     }
-    if !s.primed {
-        return 0;
-    }
-    if s.phase != 0 {
-        return 0;
-    }
-    let last = s.last;
-    put_frame(last, channels, out)
+    put_frame(s.last, channels, out)
 }
 
 // What a stage adds at its end, at the front of `out`: how many bytes.
@@ -138,17 +58,13 @@ fn put_last(channels: usize, kind: StageKind, memory: SoundMemory, out: &mut [u8
     requires { ((0 < channels) × (channels ≤ 2)) × (length (last_of channels kind memory) * (channels * 2) ≤ length out.old) }
     ensures { Fronted (last_of channels kind memory) out.old out.new result × FramesOf channels (last_of channels kind memory) }
 {
-    let state = memory.resampler;
     match kind {
-        StageKind::Gain(_) => 0,
-        StageKind::MonoToStereo => 0,
-        StageKind::StereoToMono => 0,
-        StageKind::Resample(r) => {
-            let held = stage::held_samples(state);
-            put_held(r, held, channels, out)
-        }
-        StageKind::DcBlock(_) => 0,
-        StageKind::Biquad(_) => 0,
+        StageKind::Resample(r) => put_held(r, stage::held_samples(memory.resampler), channels, out),
+        StageKind::Gain(_)
+        | StageKind::MonoToStereo
+        | StageKind::StereoToMono
+        | StageKind::DcBlock(_)
+        | StageKind::Biquad(_) => 0,
     }
 }
 
@@ -166,12 +82,14 @@ pub fn end_turn(format: PcmFormat, s: Stage, input: &[u8], out: &mut [u8]) -> En
     ensures { ServesToEnd format s (frames_of format.channels input.now) result.len result.clipped out.old out.new }
 {
     let t = arrived(format, s, input, out);
-    let kind = s.kind;
-    let memory = t.memory;
-    let len = t.len;
-    let last = put_last(format.channels as usize, kind, memory, &mut out[len..]);
+    let last = put_last(
+        format.channels as usize,
+        s.kind,
+        t.memory,
+        &mut out[t.len..],
+    );
     EndApplied {
-        len: len + last,
+        len: t.len + last,
         clipped: t.clipped,
     }
 }

@@ -9,7 +9,9 @@ use native.Mathlib.Decide.{dec_lt}
 use native.Mathlib.Numerals.{add-one}
 use native.Mathlib.Omega.{arith}
 use borrow.Author.Tests.{eq-eqb, ne_eqb}
-use lib.ListN.{length, take, drop, get_or}
+use lib.ListN.{length, take, drop, get_or, length-take}
+use lib.Seq.{drop-cons}
+use Rattle.std.proofs.Common.{drop_of_length-le}
 use Rattle.pcm.specs.declared.PcmFormat.{PcmFormat}
 use Rattle.pcm.specs.Frames.{Frame, FramesOf, frames_of, bytes_of}
 use Rattle.pcm.specs.laws.Frames.{length_bytes, frames_bytes, frames-nil, front_written}
@@ -23,7 +25,7 @@ use Rattle.ending.specs.laws.StageEnd.{stage_end_count, end_wanted_holds}
 use Rattle.pipeline.specs.declared.Pipeline.{Pipeline}
 use Rattle.turns.specs.Turns.{Halves, target_at}
 use Rattle.block.specs.BlockCall.{put, suited, shorter}
-use Rattle.block.specs.laws.Steps.{stage_at_lem, stages_end, drop_zero}
+use Rattle.block.specs.laws.Steps.{drop_zero}
 use Rattle.block.specs.laws.Reaching.{Sized, put_sized, target_long}
 use Rattle.block.specs.laws.Bounds.{suited_first, suited_rest, legal_parts}
 use Rattle.block.specs.laws.Clips.{Clips, clips_first, clips_fit, clips_next}
@@ -111,16 +113,20 @@ module _ (f : PcmFormat) (s : Stage) (i n : ℕ) (a b : List ℕ) where
 
 -- ---- one stage
 module _ (stages : List Stage) (count : ℕ) (format : PcmFormat) (before : Halves) (short : ℕ) (f : PcmFormat) (n i : ℕ) (h : Halves) (clipped : ℕ) (d : Stage)
-    (r : EndReached stages count format before short f n i h clipped) (more : i < count) (len : length stages ≡ 8) (top : count ≤ 8)
+    (r : EndReached stages count format before short f n i h clipped) (there : i < length (take count stages)) (top : count ≤ 8)
     (in_a : short ≤ length h.a) (in_b : short ≤ length h.b) where
   abbrev s : Stage
-  s = get_or stages i d
+  s = get_or (take count stages) i d
 
   abbrev rest : List Stage
   rest = drop (i + 1) (take count stages)
 
+  more : i < count
+  more = omega (arith, simp length-take at there)
+
   ahead : drop i (take count stages) ≡ s ∷ rest
-  ahead = stage_at_lem stages count i d more (omega arith)
+  ahead =
+      drop-cons (take count stages) i d there ∙ ap (λ (n : ℕ). s ∷ drop n (take count stages)) (sym (add-one i))
 
   suit_all : suited f (s ∷ rest) ≡ true
   suit_all = sym (ap (suited f) ahead) ∙ r.suit
@@ -211,9 +217,9 @@ module _ (stages : List Stage) (count : ℕ) (format : PcmFormat) (before : Halv
 
 -- ---- past the last stage
 module _ (stages : List Stage) (count : ℕ) (format : PcmFormat) (before : Halves) (short : ℕ) (f : PcmFormat) (n i : ℕ) (h : Halves) (clipped : ℕ)
-    (r : EndReached stages count format before short f n i h clipped) (last : count ≤ i) where
+    (r : EndReached stages count format before short f n i h clipped) (last : length (take count stages) ≤ i) where
   over : drop i (take count stages) ≡ []
-  over = stages_end stages count i last
+  over = drop_of_length-le (take count stages) last
 
   pub ended_size : n ≡ length (bytes_of (chain_end format (take count stages) []))
   ended_size = r.size ∙ ap (λ (xs : List Frame). length (bytes_of xs)) (sym (r.makes ∙ ap (λ (l : List Stage). chain_end f l r.xs) over ∙ chain_end_none f r.xs))

@@ -61,9 +61,10 @@ fn turn(format: PcmFormat, s: Stage, i: usize, n: usize, a: &mut [u8], b: &mut [
     ensures { EndTurn format s (frames_of format.channels (source_for i n (halves a.old b.old))) i result.len result.clipped (halves a.old b.old) (halves a.new b.new) }
 {
     if i % 2 == 0 {
-        return end_turns::end_turn(format, s, &b[..n], a);
+        end_turns::end_turn(format, s, &b[..n], a)
+    } else {
+        end_turns::end_turn(format, s, &a[..n], b)
     }
-    end_turns::end_turn(format, s, &a[..n], b)
 }
 
 // Every stage in turn, also after one that delivers nothing: how many bytes the last one delivers, and how many samples they held back.
@@ -71,19 +72,14 @@ fn end_stages(chain: Pipeline, a: &mut [u8], b: &mut [u8]) -> EndApplied
     requires { Finishes chain a.old b.old }
     ensures { (result ≡ record { len = finish_bytes chain; clipped = finish_clipped chain }) × (halves a.new b.new ≡ ended_halves 0 chain.format (stages_of chain) [] (halves a.old b.old)) }
 {
-    let count = chain.count;
     let mut format = chain.format;
     let mut len: usize = 0;
     let mut clipped: usize = 0;
-    let mut i: usize = 0;
-    while i < count {
-        let s = chain.stages[i];
-        let kind = s.kind;
-        let t = turn(format, s, i, len, a, b);
+    for (i, s) in chain.stages[..chain.count].iter().enumerate() {
+        let t = turn(format, *s, i, len, a, b);
         len = t.len;
         clipped += t.clipped;
-        format = stage::format_after(format, kind);
-        i += 1;
+        format = stage::format_after(format, s.kind);
     }
     EndApplied { len, clipped }
 }

@@ -1,1 +1,1 @@
-mod Turning
+mod Making

@@ -1,24 +1,9 @@
--- One stage's turn in a block (document 01, pipeline.rs): what it reads and writes, and what each kind asks and does. Definitions only.
-use Rattle.std.specs.Prelude.{List, ℕ, ◌*◌, ◌/◌, ◌%◌, ◌≤◌, ◌≡◌, cond, eqb, nat_abs, length, take}
+-- One stage's turn in a block (document 01, pipeline.rs): what it reads and writes, and what a stage of any kind takes and makes. Definitions only.
+use Rattle.std.specs.Prelude.{List, ℕ, ◌%◌, ◌≡◌, cond, eqb, length, take}
+use Rattle.std.specs.Borrow.{Bor, MutBor}
+use Rattle.std.specs.Fn.{Once}
 use Rattle.pcm.specs.declared.PcmFormat.{PcmFormat}
-use Rattle.pcm.specs.Samples.{decode}
-use Rattle.pcm.specs.Frames.{FramesOf, frames_of, written}
-use Rattle.filters.specs.declared.FilterMemory.{FilterMemory}
-use Rattle.filters.specs.declared.Filtered.{Filtered}
-use Rattle.filters.specs.Filters.{FilteredBlock}
-use Rattle.gain.specs.declared.Gain.{Gain}
-use Rattle.gain.specs.Gain.{scaled_bytes}
-use Rattle.gain.specs.Clipping.{clipped_in}
-use Rattle.channels.specs.Channels.{stereo_bytes, mono_bytes}
-use Rattle.dc_block.specs.declared.DcBlock.{DcBlock}
-use Rattle.dc_block.specs.DcBlock.{dc_tick}
-use Rattle.biquad.specs.declared.Biquad.{Biquad}
-use Rattle.biquad.specs.Recurrence.{biquad_tick}
-use Rattle.rates.specs.declared.LinearResampler.{LinearResampler}
-use Rattle.rates.specs.declared.ResamplerState.{ResamplerState}
-use Rattle.resample.specs.declared.Resampled.{Resampled}
-use Rattle.resample.specs.Resample.{resampled, state_after}
-use Rattle.resample.specs.Stage.{Ready, Processed}
+use Rattle.pcm.specs.Frames.{FramesOf, frames_of}
 use Rattle.stage.specs.declared.SoundMemory.{SoundMemory}
 use Rattle.stage.specs.declared.Stage.{Stage}
 use Rattle.stage.specs.Stages.{stage_clipped}
@@ -57,36 +42,21 @@ pub record TurnDoes (i n : ℕ) (block : List ℕ) (before after : Halves) (Does
   pub does : Does (source_at i n block before) (target_at i before) (target_at i after)
   pub other : other_at i after ≡ other_at i before
 
--- ---- what each kind's own function asks of the bytes it reads and of its half, and what it does
-abbrev pub GainAsks : Gain → List ℕ → List ℕ → Type 0
-GainAsks g source target = (length source % 2 ≡ 0) × (length source ≤ length target) × (nat_abs g.q15 ≤ 33554432)
+-- ---- a step from the bytes read to the half
+module _ {F R : Type 0} (g : Once F (Bor (List ℕ) × (MutBor (List ℕ) × Unit {0})) (R × (MutBor (List ℕ) × Unit {0}))) (step : F) where
+  -- it may be run there
+  abbrev pub StepAsks : List ℕ → List ℕ → Type 0
+  StepAsks source target = (input : Bor (List ℕ)) (out : MutBor (List ℕ)) → input.now ≡ source → out.now ≡ target → g.pre step (input, (out, tt))
 
-abbrev pub GainDoes : Gain → ℕ → List ℕ → List ℕ → List ℕ → Type 0
-GainDoes g clipped source before after = (after ≡ written (scaled_bytes g.q15 source) before) × (clipped ≡ clipped_in g.q15 (decode source))
-
-abbrev pub StereoAsks : List ℕ → List ℕ → Type 0
-StereoAsks source target = (length source % 2 ≡ 0) × (length source * 2 ≤ length target)
-
-abbrev pub StereoDoes : List ℕ → List ℕ → List ℕ → Type 0
-StereoDoes source before after = after ≡ written (stereo_bytes source) before
-
-abbrev pub MonoAsks : List ℕ → List ℕ → Type 0
-MonoAsks source target = (length source % 4 ≡ 0) × (length source / 2 ≤ length target)
-
-abbrev pub MonoDoes : List ℕ → List ℕ → List ℕ → Type 0
-MonoDoes source before after = after ≡ written (mono_bytes source) before
-
-abbrev pub ResampleAsks : LinearResampler → ResamplerState → ℕ → List ℕ → List ℕ → Type 0
-ResampleAsks r state channels source target = Ready channels r.in_r r.out_r (resampled r state (frames_of channels source)) source target
-
-abbrev pub ResampleDoes : LinearResampler → ResamplerState → ℕ → Resampled → List ℕ → List ℕ → List ℕ → Type 0
-ResampleDoes r state channels t source before after = Processed (resampled r state (frames_of channels source)) (state_after r state (frames_of channels source)) before after t
-
-abbrev pub DcDoes : DcBlock → ℕ → FilterMemory → Filtered → List ℕ → List ℕ → List ℕ → Type 0
-DcDoes d channels filter r source before after = FilteredBlock (dc_tick d.r) channels filter source before after r
-
-abbrev pub BiquadDoes : Biquad → ℕ → FilterMemory → Filtered → List ℕ → List ℕ → List ℕ → Type 0
-BiquadDoes f channels filter r source before after = FilteredBlock (biquad_tick f.coefficients) channels filter source before after r
+  -- it was run there, gave r, and left `after` in the half
+  pub record StepDoes (r : R) (source before after : List ℕ) : Type 0 where
+    pub input : Bor (List ℕ)
+    pub reads : input.now ≡ source
+    pub out : MutBor (List ℕ)
+    pub finds : out.now ≡ before
+    pub left : MutBor (List ℕ)
+    pub met : g.post step (input, (out, tt)) (r, (left, tt))
+    pub leaves : left.now ≡ after
 
 -- ---- a stage of any kind
 -- it asks for frames of the format that reaches it, and the room that it wants

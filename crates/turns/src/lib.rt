@@ -1,18 +1,12 @@
-// One stage's turn in a block: stage i + 1 reads the block or the n bytes that the stage before wrote, and writes to half a where i is
-// even, else to b.
+// A stage's turn: what a stage of any kind makes of the bytes that reach it, and where they lie in a block. Stage i + 1 reads the block or
+// the n bytes that the stage before wrote, and writes to half a where i is even, else to b.
 #![tactic(auto)]
 
 ghost use Rattle.std.specs.Prelude.{◌≡◌, ◌≤◌, length};
-ghost use Rattle.filters.specs.Filters.{FilterBlock};
-ghost use Rattle.turns.specs.Turns.{halves, even_source, TurnAsks, TurnDoes, GainAsks, GainDoes, StereoAsks, StereoDoes, MonoAsks, MonoDoes, ResampleAsks, ResampleDoes, DcDoes, BiquadDoes, Takes, Makes};
+ghost use Rattle.turns.specs.Turns.{halves, even_source, TurnAsks, TurnDoes, StepAsks, StepDoes, Takes, Makes};
 
-use biquad::Biquad;
-use dc_block::DcBlock;
-use filters::{FilterMemory, Filtered};
-use gain::Gain;
+use filters::Filtered;
 use pcm::PcmFormat;
-use rates::{LinearResampler, ResamplerState};
-use resample::Resampled;
 use stage::{SoundMemory, Stage, StageKind};
 
 // A stage's memory after its turn, how many bytes it delivered, and how many samples it held back.
@@ -23,6 +17,82 @@ pub struct Applied {
     pub clipped: usize,
 }
 
+// What a stage of any kind makes of `input`, at the front of `out`. The channel stages and the resampler hold nothing back.
+// One body for all callers: each kind's block function then has one call site, and is inlined here.
+#[inline(never)]
+pub fn stage_turn(format: PcmFormat, s: &Stage, input: &[u8], out: &mut [u8]) -> Applied
+    requires { Takes format s.now input.now out.old }
+    ensures { Makes format s.now result.memory result.len result.clipped input.now out.old out.new }
+{
+    // Field by field: a copy of the whole takes its padding along, which costs a short block more than its samples.
+    let held = stage::held_samples(s.memory.resampler);
+    let memory = SoundMemory {
+        resampler: held,
+        ..s.memory
+    };
+    let channels = format.channels as usize;
+    let len = input.len();
+    match s.kind {
+        StageKind::Gain(g) => {
+            let clipped = g.process(input, out);
+            Applied {
+                memory,
+                len,
+                clipped,
+            }
+        }
+        StageKind::MonoToStereo => {
+            channels::mono_to_stereo(input, out);
+            Applied {
+                memory,
+                len: len * 2,
+                clipped: 0,
+            }
+        }
+        StageKind::StereoToMono => {
+            channels::stereo_to_mono(input, out);
+            Applied {
+                memory,
+                len: len / 2,
+                clipped: 0,
+            }
+        }
+        StageKind::Resample(r) => {
+            let t = resample::process(r, held, channels, input, out);
+            Applied {
+                memory: SoundMemory {
+                    resampler: t.state,
+                    ..memory
+                },
+                len: t.frames * (channels * 2),
+                clipped: 0,
+            }
+        }
+        StageKind::DcBlock(d) => {
+            let t = d.process(input, out, channels, memory.filter);
+            filtered(memory, len, t)
+        }
+        StageKind::Biquad(f) => {
+            let t = f.process(input, out, channels, memory.filter);
+            filtered(memory, len, t)
+        }
+    }
+}
+
+// A filter's turn: as many bytes as reached it.
+fn filtered(memory: SoundMemory, len: usize, t: Filtered) -> Applied
+    ensures { result ≡ record { memory = record memory { filter = t.memory }; len = len; clipped = t.clipped } }
+{
+    Applied {
+        memory: SoundMemory {
+            filter: t.memory,
+            ..memory
+        },
+        len,
+        clipped: t.clipped,
+    }
+}
+
 // What a stage with an even i reads.
 fn even_source<'a>(i: usize, n: usize, block: &'a [u8], b: &'a [u8]) -> &'a [u8]
     requires { (i ≡ 0 → ⊥) → n ≤ length b.now }
@@ -31,96 +101,26 @@ fn even_source<'a>(i: usize, n: usize, block: &'a [u8], b: &'a [u8]) -> &'a [u8]
     if i == 0 { block } else { &b[..n] }
 }
 
-fn gain_turn(g: Gain, i: usize, n: usize, block: &[u8], a: &mut [u8], b: &mut [u8]) -> usize
-    requires { TurnAsks i n block.now (halves a.old b.old) (GainAsks g) }
-    ensures { TurnDoes i n block.now (halves a.old b.old) (halves a.new b.new) (GainDoes g result) }
-{
-    if i % 2 == 0 {
-        return g.process(even_source(i, n, block, b), a);
-    }
-    g.process(&a[..n], b)
-}
-
-fn stereo_turn(i: usize, n: usize, block: &[u8], a: &mut [u8], b: &mut [u8])
-    requires { TurnAsks i n block.now (halves a.old b.old) StereoAsks }
-    ensures { TurnDoes i n block.now (halves a.old b.old) (halves a.new b.new) StereoDoes }
-{
-    if i % 2 == 0 {
-        channels::mono_to_stereo(even_source(i, n, block, b), a);
-        return;
-    }
-    channels::mono_to_stereo(&a[..n], b);
-}
-
-fn mono_turn(i: usize, n: usize, block: &[u8], a: &mut [u8], b: &mut [u8])
-    requires { TurnAsks i n block.now (halves a.old b.old) MonoAsks }
-    ensures { TurnDoes i n block.now (halves a.old b.old) (halves a.new b.new) MonoDoes }
-{
-    if i % 2 == 0 {
-        channels::stereo_to_mono(even_source(i, n, block, b), a);
-        return;
-    }
-    channels::stereo_to_mono(&a[..n], b);
-}
-
-fn resample_turn(
-    r: LinearResampler,
-    state: ResamplerState,
-    channels: usize,
+// A step from what stage i + 1 reads to its half.
+fn between_halves<R, F: FnOnce(&[u8], &mut [u8]) -> R>(
     i: usize,
     n: usize,
     block: &[u8],
     a: &mut [u8],
     b: &mut [u8],
-) -> Resampled
-    requires { TurnAsks i n block.now (halves a.old b.old) (ResampleAsks r state channels) }
-    ensures { TurnDoes i n block.now (halves a.old b.old) (halves a.new b.new) (ResampleDoes r state channels result) }
+    step: F,
+) -> R
+    requires { TurnAsks i n block.now (halves a.old b.old) (StepAsks F.FnOnce step) }
+    ensures { TurnDoes i n block.now (halves a.old b.old) (halves a.new b.new) (StepDoes F.FnOnce step result) }
 {
     if i % 2 == 0 {
-        return resample::process(r, state, channels, even_source(i, n, block, b), a);
+        step(even_source(i, n, block, b), a)
+    } else {
+        step(&a[..n], b)
     }
-    resample::process(r, state, channels, &a[..n], b)
 }
 
-fn dc_turn(
-    d: DcBlock,
-    filter: FilterMemory,
-    channels: usize,
-    i: usize,
-    n: usize,
-    block: &[u8],
-    a: &mut [u8],
-    b: &mut [u8],
-) -> Filtered
-    requires { TurnAsks i n block.now (halves a.old b.old) (FilterBlock channels) }
-    ensures { TurnDoes i n block.now (halves a.old b.old) (halves a.new b.new) (DcDoes d channels filter result) }
-{
-    if i % 2 == 0 {
-        return d.process(even_source(i, n, block, b), a, channels, filter);
-    }
-    d.process(&a[..n], b, channels, filter)
-}
-
-fn biquad_turn(
-    f: Biquad,
-    filter: FilterMemory,
-    channels: usize,
-    i: usize,
-    n: usize,
-    block: &[u8],
-    a: &mut [u8],
-    b: &mut [u8],
-) -> Filtered
-    requires { TurnAsks i n block.now (halves a.old b.old) (FilterBlock channels) }
-    ensures { TurnDoes i n block.now (halves a.old b.old) (halves a.new b.new) (BiquadDoes f channels filter result) }
-{
-    if i % 2 == 0 {
-        return f.process(even_source(i, n, block, b), a, channels, filter);
-    }
-    f.process(&a[..n], b, channels, filter)
-}
-
-// The turn of a stage of any kind: what it makes stands at the front of its half. The channel stages and the resampler hold nothing back.
+// The turn of a stage of any kind: what it makes stands at the front of its half.
 pub fn turn(
     format: PcmFormat,
     s: Stage,
@@ -133,63 +133,12 @@ pub fn turn(
     requires { TurnAsks i n block.now (halves a.old b.old) (Takes format s) }
     ensures { TurnDoes i n block.now (halves a.old b.old) (halves a.new b.new) (Makes format s result.memory result.len result.clipped) }
 {
-    let kind = s.kind;
-    let memory = s.memory;
-    let filter = memory.filter;
-    let resampler = memory.resampler;
-    let channels = format.channels as usize;
-    match kind {
-        StageKind::Gain(g) => {
-            let clipped = gain_turn(g, i, n, block, a, b);
-            Applied {
-                memory,
-                len: n,
-                clipped,
-            }
-        }
-        StageKind::MonoToStereo => {
-            stereo_turn(i, n, block, a, b);
-            Applied {
-                memory,
-                len: n * 2,
-                clipped: 0,
-            }
-        }
-        StageKind::StereoToMono => {
-            mono_turn(i, n, block, a, b);
-            Applied {
-                memory,
-                len: n / 2,
-                clipped: 0,
-            }
-        }
-        StageKind::Resample(r) => {
-            let held = stage::held_samples(resampler);
-            let t = resample_turn(r, held, channels, i, n, block, a, b);
-            let resampler = t.state;
-            Applied {
-                memory: SoundMemory { filter, resampler },
-                len: t.frames * (channels * 2),
-                clipped: 0,
-            }
-        }
-        StageKind::DcBlock(d) => {
-            let t = dc_turn(d, filter, channels, i, n, block, a, b);
-            let filter = t.memory;
-            Applied {
-                memory: SoundMemory { filter, resampler },
-                len: n,
-                clipped: t.clipped,
-            }
-        }
-        StageKind::Biquad(f) => {
-            let t = biquad_turn(f, filter, channels, i, n, block, a, b);
-            let filter = t.memory;
-            Applied {
-                memory: SoundMemory { filter, resampler },
-                len: n,
-                clipped: t.clipped,
-            }
-        }
-    }
+    between_halves(
+        i,
+        n,
+        block,
+        a,
+        b,
+        |input, out| stage_turn(format, &s, input, out),
+    )
 }
