@@ -34,11 +34,9 @@ fn run<R: Files + Print + Eprint>(
 ) -> io::Result<()>
     requires { (2 * length bytes.old ≤ length out.old) × (3 ≤ length out.old) }
 {
-    let file = files::read_file(rt, path, bytes);
-    if !file.ok {
+    let Some(count) = files::read_file(rt, path, bytes) else {
         return Ok(());
-    }
-    let count = file.count;
+    };
     let n = fill_page(rate, channels, &bytes[..count], out);
     rt.write_all(&out[..n])
 }
