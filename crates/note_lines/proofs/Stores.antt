@@ -1,5 +1,6 @@
 -- Digits, stored one after another. Assumes nothing.
 use mathlib.Core.Path.{◌≡◌, sym, ap, ◌∙◌}
+use mathlib.Core.Bool.{true}
 use mathlib.Core.List.{List, [], ◌∷◌, ◌++◌, map}
 use Prim.Native.Nat.{ℕ, ◌+◌, ◌*◌, ◌/◌, ◌%◌, ◌<◌}
 use native.Mathlib.Numerals.{add-one}
@@ -8,9 +9,10 @@ use lib.ListN.{length, take, get_or, set}
 use lib.Seq.{sets, take-suc, length-take-le}
 use Rattle.pcm.specs.Frames.{flat}
 use Rattle.pcm.specs.laws.Frames.{flat_append, map_append}
+use Rattle.recipe.specs.Records.{of_note}
 use Rattle.words.specs.laws.Runs.{sets_append}
 use Rattle.note_lines.specs.Lines.{hex_of, line_of}
-use Rattle.note_lines.specs.laws.Lines.{length_hex}
+use Rattle.note_lines.specs.laws.Lines.{length_hex, length_line, line_if}
 
 abbrev pub hex_text : List ℕ → List ℕ
 hex_text text = flat (map hex_of text)
@@ -43,3 +45,6 @@ line_stored kind text out to =
     ∙ ap (λ (n : ℕ). sets (sets (sets out to a) (to + 2) b) n (hex_text text ++ (0x0a ∷ []))) e
     ∙ sym (sets_append b (hex_text text ++ (0x0a ∷ [])) (sets out to a) (to + 2))
     ∙ sym (sets_append a (b ++ (hex_text text ++ (0x0a ∷ []))) out to)
+
+pub note_line_size : (kind : ℕ) (text : List ℕ) → true ≡ of_note kind → length (line_if kind text) ≡ 5 + 2 * length text
+note_line_size kind text h = rw (sym h) (length_line (record { kind = kind; text = text }))
