@@ -138,6 +138,7 @@ fn write_lines(recipe: &[u8], out: &mut [u8])
 }
 
 // Is the recipe within its limit, and does it open?
+#[tactic(auto, unfolding(crate::specs::Page::desk_verdict))]
 fn desk_question(format: PcmFormat, recipe: &[u8]) -> Verdict
     ensures { result ≡ desk_verdict format recipe.now }
 {
