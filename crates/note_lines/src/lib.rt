@@ -53,8 +53,7 @@ fn put_line(kind: u16, text: &[u8], out: &mut [u8], to: usize)
     requires { to + (5 + 2 * length text.now) ≤ length out.old }
     ensures { out.new ≡ sets out.old to (line_of (record { kind = kind; text = text.now })) }
 {
-    put_hex((kind / 256) as u8, out, to);
-    put_hex((kind % 256) as u8, out, to + 2);
+    put_text(&kind.to_be_bytes(), out, to);
     put_text(text, out, to + 4);
     out[to + 4 + 2 * text.len()] = b'\n';
 }
