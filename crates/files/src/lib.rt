@@ -1,7 +1,7 @@
 // Files, for the programs.
 #![tactic(auto)]
 
-ghost use Rattle.std.specs.Prelude.{IfOk, ◌<◌, length, take};
+ghost use Rattle.std.specs.Prelude.{IfOk, IfSome, ◌<◌, length, take};
 ghost use Rattle.std.specs.Io.{ReadsAtMost};
 ghost use Rattle.std.specs.Io.KnownBytes.{Consumes, IsAtEnd};
 ghost use Rattle.io.specs.Counts.{IsPrefixLen};
@@ -11,15 +11,8 @@ use std::io::Read;
 use std::rt::Files;
 use std::{io, str};
 
-// How many bytes of a file stand at the front of a buffer. Where it could not be read it is not ok, and standard error says why.
-#[derive(Clone, Copy)]
-pub struct FileRead {
-    pub ok: bool,
-    pub count: usize,
-}
-
-// Reads until buf is full or the file ends.
-fn fill<F: Read>(file: &mut F, buf: &mut [u8]) -> io::Result<usize>
+// Reads until buf is full or the file ends, and gives how many bytes stand at its front.
+pub fn fill<F: Read>(file: &mut F, buf: &mut [u8]) -> io::Result<usize>
     ensures bound { ReadsAtMost result buf.new }
     ensures bytes { IfOk result (λ n. Consumes (F.remaining file.old) (F.remaining file.new) (take n buf.new)) }
     ensures end { IfOk result (λ n. n < length buf.new → IsAtEnd (F.remaining file.new)) }
@@ -43,25 +36,19 @@ fn open_and_fill<R: Files>(rt: &R, path: &str, buf: &mut [u8]) -> io::Result<usi
     fill(&mut file, buf)
 }
 
-// The first bytes of a file, as many as buf holds.
-pub fn read_file<R: Files + Eprint>(rt: &R, path: &[u8], buf: &mut [u8]) -> FileRead
-    ensures { IsPrefixLen result.count buf.new }
+// The first bytes of a file, as many as buf holds, and how many those are. None where it could not be read, and standard error says why.
+pub fn read_file<R: Files + Eprint>(rt: &R, path: &[u8], buf: &mut [u8]) -> Option<usize>
+    ensures { IfSome result (λ n. IsPrefixLen n buf.new) }
 {
     let Ok(path) = str::from_utf8(path) else {
         let _ = eprintln!(rt; "the path is not UTF-8");
-        return FileRead {
-            ok: false,
-            count: 0,
-        };
+        return None;
     };
     match open_and_fill(rt, path, buf) {
-        Ok(count) => FileRead { ok: true, count },
+        Ok(count) => Some(count),
         Err(e) => {
             let _ = eprintln!(rt; "{path}: {e}");
-            FileRead {
-                ok: false,
-                count: 0,
-            }
+            None
         }
     }
 }

@@ -1,16 +1,19 @@
 -- Digits, stored one after another. Assumes nothing.
 use mathlib.Core.Path.{◌≡◌, sym, ap, ◌∙◌}
+use mathlib.Core.Bool.{true}
 use mathlib.Core.List.{List, [], ◌∷◌, ◌++◌, map}
 use Prim.Native.Nat.{ℕ, ◌+◌, ◌*◌, ◌/◌, ◌%◌, ◌<◌}
 use native.Mathlib.Numerals.{add-one}
 use native.Mathlib.Omega.{arith}
 use lib.ListN.{length, take, get_or, set}
 use lib.Seq.{sets, take-suc, length-take-le}
+use Rattle.std.specs.Int.{w16, to_be_bytes}
 use Rattle.pcm.specs.Frames.{flat}
 use Rattle.pcm.specs.laws.Frames.{flat_append, map_append}
+use Rattle.recipe.specs.Records.{of_note}
 use Rattle.words.specs.laws.Runs.{sets_append}
 use Rattle.note_lines.specs.Lines.{hex_of, line_of}
-use Rattle.note_lines.specs.laws.Lines.{length_hex}
+use Rattle.note_lines.specs.laws.Lines.{length_hex, length_line, line_if}
 
 abbrev pub hex_text : List ℕ → List ℕ
 hex_text text = flat (map hex_of text)
@@ -29,17 +32,18 @@ text_next text out to i h =
     ∙ sym (sets_append (hex_text (take i text)) (hex_of (get_or text i 0)) out to) ∙ ap (sets out to) (sym (hex_next text i h))
 
 -- the parts of a line
-pub line_stored : (kind : ℕ) (text out : List ℕ) (to : ℕ)
-    → set (sets (sets (sets out to (hex_of (kind / 256))) (to + 2) (hex_of (kind % 256))) (to + 4) (hex_text text)) (to + 4 + 2 * length text) 0x0a
+pub line_stored : (kind : ℕ) (text out : List ℕ) (to : ℕ) → kind < 65536
+    → set (sets (sets out to (hex_text (to_be_bytes w16 kind))) (to + 4) (hex_text text)) (to + 4 + 2 * length text) 0x0a
     ≡ sets out to (line_of (record { kind = kind; text = text }))
 unfolding line_of
-line_stored kind text out to =
-    let a = hex_of (kind / 256) in
-    let b = hex_of (kind % 256) in
-    let e : to + 4 ≡ to + 2 + 2 = omega arith in
+line_stored kind text out to h =
+    let a = hex_text (to_be_bytes w16 kind) in
+    let high : kind / 256 % 256 ≡ kind / 256 = omega arith in
     let l : 2 * length text ≡ length (hex_text text) = sym (length_hex text) in
-    ap (λ (n : ℕ). sets (sets (sets (sets out to a) (to + 2) b) (to + 4) (hex_text text)) (to + 4 + n) (0x0a ∷ [])) l
-    ∙ sym (sets_append (hex_text text) (0x0a ∷ []) (sets (sets out to a) (to + 2) b) (to + 4))
-    ∙ ap (λ (n : ℕ). sets (sets (sets out to a) (to + 2) b) n (hex_text text ++ (0x0a ∷ []))) e
-    ∙ sym (sets_append b (hex_text text ++ (0x0a ∷ [])) (sets out to a) (to + 2))
-    ∙ sym (sets_append a (b ++ (hex_text text ++ (0x0a ∷ []))) out to)
+    ap (λ (n : ℕ). sets (sets (sets out to a) (to + 4) (hex_text text)) (to + 4 + n) (0x0a ∷ [])) l
+    ∙ sym (sets_append (hex_text text) (0x0a ∷ []) (sets out to a) (to + 4))
+    ∙ sym (sets_append a (hex_text text ++ (0x0a ∷ [])) out to)
+    ∙ rw high
+
+pub note_line_size : (kind : ℕ) (text : List ℕ) → true ≡ of_note kind → length (line_if kind text) ≡ 5 + 2 * length text
+note_line_size kind text h = rw (sym h) (length_line (record { kind = kind; text = text }))

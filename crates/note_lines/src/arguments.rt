@@ -9,26 +9,21 @@ fn field(text: &[u8], most: u32) -> u32
     ensures { result ≡ field_of most text.now }
 {
     let mut value: u32 = 0;
-    let mut i: usize = 0;
-    while i < text.len() {
-        let b = text[i];
-        if b < 0x30 {
+    for b in text {
+        if !b.is_ascii_digit() {
             return 0;
         }
-        if b > 0x39 {
-            return 0;
-        }
-        let next = 10 * (value as u64) + ((b - 0x30) as u64);
-        if next > most as u64 {
+        let next = 10 * u64::from(value) + u64::from(*b - b'0');
+        if next > u64::from(most) {
             return 0;
         }
         value = next as u32;
-        i += 1;
     }
     value
 }
 
 // The format that two arguments give.
+#[tactic(auto, using(crate::specs::laws::Arguments::field_within))]
 pub fn format(rate: &[u8], channels: &[u8]) -> PcmFormat
     ensures { result ≡ format_of rate.now channels.now }
 {

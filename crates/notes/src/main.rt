@@ -18,29 +18,9 @@ fn fill_page(rate: &[u8], channels: &[u8], recipe: &[u8], out: &mut [u8]) -> usi
     note_lines::page(rate, channels, recipe, out).unwrap_or(0)
 }
 
-// Prints the page of the file that path names.
+// Prints the page of the file that path names. There is room for a byte more than a recipe may have, so that a longer file is told, and
+// for twice as many of the page. Both are lent as arrays: lent as slices where they are made, the proof would have to count their elements.
 fn run<R: Files + Print + Eprint>(
-    rt: &R,
-    rate: &[u8],
-    channels: &[u8],
-    path: &[u8],
-    bytes: &mut [u8],
-    out: &mut [u8],
-) -> io::Result<()>
-    requires { (2 * length bytes.old ≤ length out.old) × (3 ≤ length out.old) }
-{
-    let file = files::read_file(rt, path, bytes);
-    if !file.ok {
-        return Ok(());
-    }
-    let count = file.count;
-    let n = fill_page(rate, channels, &bytes[..count], out);
-    rt.write_all(&out[..n])
-}
-
-// A byte more than a recipe may have, so that a longer file is told, and twice as many for the page. They are lent as arrays first: lent
-// as slices where they are made, the proof would have to count their elements.
-fn lend<R: Files + Print + Eprint>(
     rt: &R,
     rate: &[u8],
     channels: &[u8],
@@ -48,7 +28,11 @@ fn lend<R: Files + Print + Eprint>(
     bytes: &mut [u8; 1048577],
     out: &mut [u8; 2097154],
 ) -> io::Result<()> {
-    run(rt, rate, channels, path, bytes, out)
+    let Some(count) = files::read_file(rt, path, bytes) else {
+        return Ok(());
+    };
+    let n = fill_page(rate, channels, &bytes[..count], out);
+    rt.write_all(&out[..n])
 }
 
 fn with_room<R: Files + Print + Eprint>(
@@ -59,7 +43,7 @@ fn with_room<R: Files + Print + Eprint>(
 ) -> io::Result<()> {
     let mut bytes = [0u8; 1048577];
     let mut out = [0u8; 2097154];
-    lend(rt, rate, channels, path, &mut bytes, &mut out)
+    run(rt, rate, channels, path, &mut bytes, &mut out)
 }
 
 // Whether there is an argument of this number; the program's name is number 0.

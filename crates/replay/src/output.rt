@@ -1,51 +1,32 @@
-// The fields of an answer, written to standard output, low byte first.
+// The fields of an answer, written low byte first.
+use crate::Replay;
+use std::io;
+use std::io::Write;
 
-pub fn byte(x: u8) {
-    io::write_all(1, &[x]);
-}
+impl<I, O: Write> Replay<I, O> {
+    // A field's bytes.
+    pub fn put<const N: usize>(&mut self, field: [u8; N]) -> io::Result<()> {
+        self.answers.write_all(&field)
+    }
 
-pub fn short(x: u16) {
-    let mut s = [0u8; 2];
-    words::put_u16(&mut s, 0, x);
-    io::write_all(1, &s);
-}
+    // A length, of which four bytes are written.
+    pub fn put_length(&mut self, n: usize) -> io::Result<()> {
+        self.put(((n % 4294967296) as u32).to_le_bytes())
+    }
 
-pub fn word(x: u32) {
-    let mut s = [0u8; 4];
-    words::put_u32(&mut s, 0, x);
-    io::write_all(1, &s);
-}
+    // A length and so many bytes.
+    pub fn put_bytes(&mut self, s: &[u8]) -> io::Result<()> {
+        self.put_length(s.len())?;
+        self.answers.write_all(s)
+    }
 
-pub fn long(x: u64) {
-    let mut s = [0u8; 8];
-    words::put_u64(&mut s, 0, x);
-    io::write_all(1, &s);
-}
+    // A float's bits, the same for every NaN.
+    pub fn put_float(&mut self, x: f32) -> io::Result<()> {
+        self.put(floats::bits_of_float(x).to_le_bytes())
+    }
 
-// A length, of which four bytes are written.
-pub fn length(n: usize) {
-    word((n % 4294967296) as u32);
-}
-
-// A length and so many bytes.
-pub fn bytes(s: &[u8]) {
-    length(s.len());
-    io::write_all(1, s);
-}
-
-// A float's bits, the same for every NaN.
-pub fn float(x: f32) {
-    word(floats::bits_of_float(x));
-}
-
-// The two bytes of a sample.
-pub fn sample(x: i16) {
-    let mut s = [0u8; 2];
-    pcm::put_i16(&mut s, 0, x);
-    io::write_all(1, &s);
-}
-
-// The mark of a script that goes no further.
-pub fn end_mark() {
-    byte(255);
+    // The mark of a script that goes no further.
+    pub fn put_end_mark(&mut self) -> io::Result<()> {
+        self.put([255])
+    }
 }

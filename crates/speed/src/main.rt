@@ -2,246 +2,170 @@
 // the channels, the frames of a block and the number of passes, 32 bits each, low byte first, then the recipe.
 #![tactic(auto)]
 
-ghost use Rattle.std.specs.Prelude.{◌+◌, ◌<◌, ◌≤◌, length};
+ghost use Rattle.std.specs.Prelude.{◌<◌, ◌≤◌};
 
 use answers::Answer;
 use pcm::PcmFormat;
 use pipeline::Pipeline;
+use std::io;
 
-// Frames that came out, a checksum of 32 bits, and samples that were held back.
-#[derive(Clone, Copy)]
-struct Tally {
-    frames: u64,
-    checksum: u64,
-    clipped: u64,
-}
-
-fn wide(x: u8) -> u64
-    ensures { result < 256 }
-{
-    x as u64
-}
-
-// One more number in a checksum.
-fn summed(checksum: u64, n: u64) -> u64 {
-    (checksum % 4294967296 * 33 + n % 4294967296) % 4294967296
+// One more number in a checksum of 32 bits.
+fn summed(checksum: u32, n: u32) -> u32 {
+    checksum.wrapping_mul(33).wrapping_add(n)
 }
 
 // Every byte in a checksum.
-fn all_summed(checksum: u64, sound: &[u8]) -> u64 {
-    let mut sum = checksum;
-    for x in sound {
-        sum = summed(sum, wide(*x));
-    }
-    sum
+fn all_summed(checksum: u32, sound: &[u8]) -> u32 {
+    sound
+        .iter()
+        .fold(checksum, |sum, x| summed(sum, u32::from(*x)))
 }
 
 // The length and the last byte in a checksum.
-fn end_summed(checksum: u64, sound: &[u8]) -> u64 {
-    let n = sound.len();
-    if n == 0 {
-        return summed(checksum, 0);
+fn end_summed(checksum: u32, sound: &[u8]) -> u32 {
+    let length = summed(checksum, (sound.len() % 4294967296) as u32);
+    match sound.last() {
+        Some(x) => summed(length, u32::from(*x)),
+        None => length,
     }
-    summed(summed(checksum, n as u64), wide(sound[n - 1]))
+}
+
+// Frames that came out, a checksum, and samples that were held back.
+#[derive(Clone, Copy, Default)]
+struct Tally {
+    frames: u64,
+    checksum: u32,
+    clipped: u64,
+}
+
+impl Tally {
+    // An answer's output in the tally: every byte in the first pass, later its end.
+    fn with(self, first: bool, answer: Answer, a: &[u8], b: &[u8]) -> Tally {
+        match answer {
+            Answer::Output {
+                format,
+                timestamp: _,
+                half,
+                len,
+                clipped,
+            } => {
+                let out = answers::output(a, b, half, len);
+                let checksum = end_summed(self.checksum, out);
+                Tally {
+                    frames: self
+                        .frames
+                        .wrapping_add((len / frame_bytes(format.channels)) as u64),
+                    checksum: if first {
+                        all_summed(checksum, out)
+                    } else {
+                        checksum
+                    },
+                    clipped: self.clipped.wrapping_add(clipped as u64),
+                }
+            }
+            Answer::NothingYet { clipped } => Tally {
+                checksum: summed(self.checksum, 0),
+                clipped: self.clipped.wrapping_add(clipped as u64),
+                ..self
+            },
+            Answer::Refused(e) => Tally {
+                checksum: summed(self.checksum, u32::from(e.number())),
+                ..self
+            },
+        }
+    }
+
+    // Frames and checksum; then, in a line of its own, the samples held back.
+    fn print(self, rt: &impl Print) -> io::Result<()> {
+        println!(rt; "{} frames, checksum {}", self.frames, self.checksum)?;
+        println!(rt; "{} clipped", self.clipped)
+    }
+}
+
+// The bytes of a frame.
+fn frame_bytes(channels: u16) -> usize
+    ensures { (0 < result) × (result ≤ 4) }
+{
+    if channels == 2 { 4 } else { 2 }
 }
 
 // The next number of a linear congruential generator.
 fn next(x: u32) -> u32 {
-    ((x as u64 * 1103515245 + 12345) % 2147483648) as u32
-}
-
-fn even_byte(x: u32) -> u8 {
-    (x / 65536 % 256 / 2 * 2) as u8
+    x.wrapping_mul(1103515245).wrapping_add(12345) % 0x8000_0000
 }
 
 // Noise of even samples, the same each time. The source's stereo to mono, which rounds down, makes the same of it.
 fn fill(sound: &mut [u8]) {
-    let mut x: u32 = 1;
+    let mut x = 1;
     for byte in sound {
         x = next(x);
-        *byte = even_byte(x);
+        *byte = (x / 65536 % 256 / 2 * 2) as u8;
     }
 }
 
-// Whole frames in so many bytes.
-fn frames_in(format: PcmFormat, len: usize) -> u64 {
-    if format.channels == 2 {
-        return (len / 4) as u64;
-    }
-    (len / 2) as u64
-}
-
-// An answer's output in the tally: every byte in the first pass, later its end.
-fn tallied<'a>(tally: Tally, first: bool, answer: Answer, a: &'a [u8], b: &'a [u8]) -> Tally {
-    match answer {
-        Answer::Output {
-            format,
-            timestamp: _,
-            half,
-            len,
-            clipped,
-        } => {
-            let out = answers::output(a, b, half, len);
-            let frames = tally.frames.wrapping_add(frames_in(format, len));
-            let checksum = end_summed(tally.checksum, out);
-            let clipped = tally.clipped.wrapping_add(clipped as u64);
-            if first {
-                return Tally {
-                    frames,
-                    checksum: all_summed(checksum, out),
-                    clipped,
-                };
-            }
-            Tally {
-                frames,
-                checksum,
-                clipped,
-            }
-        }
-        Answer::NothingYet { clipped } => Tally {
-            frames: tally.frames,
-            checksum: summed(tally.checksum, 0),
-            clipped: tally.clipped.wrapping_add(clipped as u64),
-        },
-        Answer::Refused(e) => Tally {
-            frames: tally.frames,
-            checksum: summed(tally.checksum, e.number() as u64),
-            clipped: tally.clipped,
-        },
-    }
-}
-
-// The chain after a pass, and the tally.
-#[derive(Clone, Copy)]
+// A chain, what came out of it so far, and the halves that are lent to its calls.
+#[derive(Drop)]
 struct Run {
     chain: Pipeline,
     tally: Tally,
+    a: [u8; 65536],
+    b: [u8; 65536],
 }
 
-// Where the block that starts at `at` ends.
-fn block_end(at: usize, size: usize, end: usize) -> usize
-    requires { (at < end) × (0 < size) }
-    ensures { (at < result) × (result ≤ end) }
-{
-    if size < end - at { at + size } else { end }
-}
-
-// The whole sound once, in blocks of `size` bytes.
-fn pass(run: Run, first: bool, size: usize, sound: &[u8], a: &mut [u8], b: &mut [u8]) -> Run
-    requires { 0 < size }
-{
-    let mut chain = run.chain;
-    let mut tally = run.tally;
-    let format = chain.format;
-    let mut at: usize = 0;
-    while at < sound.len() {
-        let end = block_end(at, size, sound.len());
-        let done = block::process(chain, format, 0, &sound[at..end], a, b);
-        let answer = done.answer;
-        tally = tallied(tally, first, answer, a, b);
-        chain = done.chain;
-        at = end;
+impl Run {
+    // The whole sound once, in blocks of `size` bytes.
+    fn pass(&mut self, first: bool, size: usize, sound: &[u8])
+        requires { 0 < size }
+    {
+        for part in sound.chunks(size) {
+            let chain = self.chain;
+            let done = block::process(chain, chain.format, 0, part, &mut self.a, &mut self.b);
+            self.chain = done.chain;
+            self.tally = self.tally.with(first, done.answer, &self.a, &self.b);
+        }
     }
-    Run { chain, tally }
 }
 
-// As many passes as asked for, at least one.
-fn passes(run: Run, times: u32, size: usize, sound: &[u8], a: &mut [u8], b: &mut [u8]) -> Run
-    requires { 0 < size }
-{
-    let mut last = pass(run, true, size, sound, a, b);
-    for _ in 1..times {
-        last = pass(last, false, size, sound, a, b);
-    }
-    last
-}
-
-// Frames and checksum; then, in a line of its own, the samples held back.
-fn print(tally: Tally) {
-    io::print_decimal(1, tally.frames);
-    io::write_all(1, b" frames, checksum ");
-    io::print_decimal(1, tally.checksum);
-    io::write_all(1, b"\n");
-    io::print_decimal(1, tally.clipped);
-    io::write_all(1, b" clipped\n");
-}
-
-// So many bytes of noise through the chain, and what came out.
-fn play(chain: Pipeline, times: u32, size: usize, length: usize)
-    requires { 0 < size }
-{
-    let mut sound = io::large_buffer();
-    fill(&mut sound);
-    let mut a = io::large_buffer();
-    let mut b = io::large_buffer();
-    let tally = Tally {
-        frames: 0,
-        checksum: 0,
-        clipped: 0,
-    };
-    let done = passes(
-        Run { chain, tally },
-        times,
-        size,
-        answers::front(&sound, length),
-        &mut a,
-        &mut b,
-    );
-    let all = done.tally;
-    print(all);
-}
-
-// The frames of a block, 1 to 8,192.
-fn block_frames(n: u32) -> usize
-    ensures { (0 < result) × (result ≤ 8192) }
-{
-    if n == 0 {
-        return 1;
-    }
-    if n > 8192 {
-        return 8192;
-    }
-    n as usize
-}
-
-// The bytes of so many frames.
-fn bytes_of(frames: usize, channels: u16) -> usize
+// 8,192 frames of noise through the chain, `times` times but at least once, and what came out.
+fn play(rt: &impl Print, chain: Pipeline, times: u32, frames: usize) -> io::Result<()>
     requires { (0 < frames) × (frames ≤ 8192) }
-    ensures { 0 < result }
 {
-    if channels == 2 {
-        frames * 4
-    } else {
-        frames * 2
+    let frame = frame_bytes(chain.format.channels);
+    let mut sound = [0u8; 32768];
+    fill(&mut sound);
+    let mut run = Run {
+        chain,
+        tally: Tally::default(),
+        a: [0; 65536],
+        b: [0; 65536],
+    };
+    let sound = answers::front(&sound, 8192 * frame);
+    run.pass(true, frames * frame, sound);
+    for _ in 1..times {
+        run.pass(false, frames * frame, sound);
     }
+    run.tally.print(rt)
 }
 
-// The chain that a script asks for, 8,192 frames through it.
-fn play_script(script: &[u8])
-    requires { 16 ≤ length script.now }
-{
-    let rate = words::get_u32(script, 0);
-    let channels = (words::get_u32(script, 4) % 65536) as u16;
-    let opened = Pipeline::open(PcmFormat { rate, channels }, &script[16..]);
+// The chain that a script asks for, and sound through it.
+fn play_script(rt: &impl Print, head: &[u8; 16], recipe: &[u8]) -> io::Result<()> {
+    let rate = words::get_u32(head, 0);
+    let channels = (words::get_u32(head, 4) % 65536) as u16;
+    let frames = words::get_u32(head, 8).clamp(1, 8192);
+    let times = words::get_u32(head, 12);
+    let opened = Pipeline::open(PcmFormat { rate, channels }, recipe);
     let verdict = opened.verdict;
     if verdict.number() != 0 {
-        io::write_all(1, b"refused\n");
-        return;
+        return println!(rt; "refused");
     }
-    let chain = opened.chain;
-    let size = bytes_of(block_frames(words::get_u32(script, 8)), channels);
-    play(
-        chain,
-        words::get_u32(script, 12),
-        size,
-        bytes_of(8192, channels),
-    );
+    play(rt, opened.chain, times, frames as usize)
 }
 
-fn main() {
-    let mut space = io::buffer();
-    let n = io::read_full(0, &mut space);
-    if n >= 16 {
-        play_script(&space[..n]);
+fn main(rt: HostRuntime) -> io::Result<()> {
+    let mut script = [0u8; 4096];
+    let count = files::fill(&mut rt.stdin(), &mut script)?;
+    match script[..count].split_first_chunk() {
+        Some((head, recipe)) => play_script(&rt, head, recipe),
+        None => Ok(()),
     }
 }

@@ -16,6 +16,13 @@ line_if kind text = cond (of_note kind) (line_of (record { kind = kind; text = t
 abbrev pub line_here : List ℕ → List ℕ
 line_here left = line_if (kind_at left) (note_at left).text
 
+-- a record taken off the bytes that are left: its kind, the bytes after that, and what is left then
+pub record RecordTaken (left : List ℕ) (kind : ℕ) (text after : List ℕ) : Type 0 where
+  pub some : 0 < length left
+  pub kind_is : kind ≡ kind_at left
+  pub text_is : text ≡ (note_at left).text
+  pub after_is : after ≡ after_next left
+
 -- the lines of records
 unfoldable pub record_lines : List (List ℕ) → List ℕ
 record_lines rs = flat (map line_here rs)
