@@ -5,7 +5,7 @@
 use answers::{Answer, FinishAnswer};
 use pcm::PcmFormat;
 use pipeline::Pipeline;
-use rates::{LinearResampler, NewResampler};
+use rates::LinearResampler;
 use std::io;
 
 // A label, a refusal's number or 0, and a count of bytes.
@@ -87,12 +87,20 @@ impl<const A: usize, const B: usize> Halves<A, B> {
     }
 }
 
-// A chain opened, and what opening answers.
-fn opens(rt: &impl Print, label: &str, format: PcmFormat, recipe: &[u8]) -> io::Result<Pipeline> {
+// A chain opened, if it opens, and what opening answers.
+fn opens(
+    rt: &impl Print,
+    label: &str,
+    format: PcmFormat,
+    recipe: &[u8],
+) -> io::Result<Option<Pipeline>> {
     let opened = Pipeline::open(format, recipe);
-    let verdict = opened.verdict;
-    line(rt, label, verdict.number(), 0)?;
-    Ok(opened.chain)
+    let number = match opened {
+        Ok(_) => 0,
+        Err(e) => e.number(),
+    };
+    line(rt, label, number, 0)?;
+    Ok(opened.ok())
 }
 
 fn mono(rate: u32) -> PcmFormat {
@@ -101,12 +109,14 @@ fn mono(rate: u32) -> PcmFormat {
 
 // 3 mono frames from 8,000 to 16,000 Hz, with halves of 14 bytes and of 13, then cut after the first frame, and finished.
 fn upsampled(rt: &impl Print) -> io::Result<()> {
-    let chain = opens(
+    let Some(chain) = opens(
         rt,
         "8,000 to 16,000 Hz",
         mono(8000),
         b"\x0a\x00\x04\x00\x40\x1f\x00\x00\x80\x3e\x00\x00",
-    )?;
+    )? else {
+        return Ok(());
+    };
     let sound = b"\x00\x00\x64\x00\x32\x00";
     let mut halves = Halves::<14, 14>::new();
     halves.block(rt, "3 frames, halves of 14", chain, sound)?;
@@ -121,12 +131,14 @@ fn upsampled(rt: &impl Print) -> io::Result<()> {
 
 // 16,000 to 8,000 Hz: an output falls on the last of 3 frames, none on the last of 4.
 fn halved(rt: &impl Print) -> io::Result<()> {
-    let chain = opens(
+    let Some(chain) = opens(
         rt,
         "16,000 to 8,000 Hz",
         mono(16000),
         b"\x0a\x00\x04\x00\x80\x3e\x00\x00\x40\x1f\x00\x00",
-    )?;
+    )? else {
+        return Ok(());
+    };
     let sound = b"\x0a\x00\x14\x00\x1e\x00\x28\x00";
     let mut halves = Halves::<14, 14>::new();
     let chain = halves.block(rt, "3 frames", chain, &sound[..6])?;
@@ -138,12 +150,14 @@ fn halved(rt: &impl Print) -> io::Result<()> {
 
 // 1,000 to 1 to 1,000 to 4,000 Hz: the finish delivers more than any block, and the halves that served the blocks are too short.
 fn widened(rt: &impl Print) -> io::Result<()> {
-    let chain = opens(
+    let Some(chain) = opens(
         rt,
         "1,000 to 1 to 1,000 to 4,000 Hz",
         mono(1000),
         b"\x0a\x00\x04\x00\xe8\x03\x00\x00\x01\x00\x00\x00\x0a\x00\x04\x00\x01\x00\x00\x00\xe8\x03\x00\x00\x0a\x00\x04\x00\xe8\x03\x00\x00\xa0\x0f\x00\x00",
-    )?;
+    )? else {
+        return Ok(());
+    };
     let mut sound = [0u8; 2002];
     sound[2000] = 100;
     let mut halves = Halves::<2002, 2002>::new();
@@ -156,7 +170,9 @@ fn widened(rt: &impl Print) -> io::Result<()> {
 
 // 8,192 frames pass, 8,193 do not.
 fn longest(rt: &impl Print) -> io::Result<()> {
-    let chain = opens(rt, "no stages", mono(16000), b"")?;
+    let Some(chain) = opens(rt, "no stages", mono(16000), b"")? else {
+        return Ok(());
+    };
     let sound = [0u8; 16386];
     let mut halves = Halves::<65536, 65536>::new();
     halves.block(rt, "8,192 frames", chain, &sound[..16384])?;
@@ -179,10 +195,9 @@ fn stages(rt: &impl Print) -> io::Result<()> {
 
 // in_r and out_r, or the refusal's number.
 fn reduced(rt: &impl Print, label: &str, in_rate: u32, out_rate: u32) -> io::Result<()> {
-    let made = LinearResampler::new(in_rate, out_rate);
-    match made {
-        NewResampler::Made(r) => println!(rt; "{label}: {} to {}", r.in_r, r.out_r),
-        NewResampler::Refused(e) => line(rt, label, e.number(), 0),
+    match LinearResampler::new(in_rate, out_rate) {
+        Ok(r) => println!(rt; "{label}: {} to {}", r.in_r, r.out_r),
+        Err(e) => line(rt, label, e.number(), 0),
     }
 }
 

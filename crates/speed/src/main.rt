@@ -153,12 +153,10 @@ fn play_script(rt: &impl Print, head: &[u8; 16], recipe: &[u8]) -> io::Result<()
     let channels = (words::get_u32(head, 4) % 65536) as u16;
     let frames = words::get_u32(head, 8).clamp(1, 8192);
     let times = words::get_u32(head, 12);
-    let opened = Pipeline::open(PcmFormat { rate, channels }, recipe);
-    let verdict = opened.verdict;
-    if verdict.number() != 0 {
+    let Ok(chain) = Pipeline::open(PcmFormat { rate, channels }, recipe) else {
         return println!(rt; "refused");
-    }
-    play(rt, opened.chain, times, frames as usize)
+    };
+    play(rt, chain, times, frames as usize)
 }
 
 fn main(rt: HostRuntime) -> io::Result<()> {

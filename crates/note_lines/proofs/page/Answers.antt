@@ -1,5 +1,5 @@
 -- The page goes by the questions' verdict, and is written where there is room.
-use Rattle.std.proofs.Common.{◌≡◌, ◌∙◌, refl, sym, ap, List, ℕ, length, Err}
+use Rattle.std.proofs.Common.{rules, ◌≡◌, ◌∙◌, refl, sym, ap, List, ℕ, length, Err}
 use Rattle.pcm.specs.declared.PcmFormat.{PcmFormat}
 use Rattle.pcm.specs.Frames.{written}
 use Rattle.pcm.specs.Refusals.{room_verdict, Verdict}
@@ -22,17 +22,27 @@ asked shown page n room v p s e = ap (λ (k : ℕ). room_verdict k room) (sym (s
 pub page_size-needed-requires : goal.page_size-needed-requires
 page_size-needed-requires c = desk_readable _ _ _ c.desk_question-verdict.ensures
 
-pub returns-in-Refused : goal.returns-in-Refused
+pub returns-in_err-require_room-clause-all : goal.returns-in_err-require_room-clause-all
 unfolding page_call
-returns-in-Refused c =
+returns-in_err-require_room-clause-all c =
     let a = c.args in
     let p = page_is a.rate.now a.channels.now a.recipe.now _ _ c.format-format.ensures c.desk_question-verdict.ensures in
-    let r = concluded _ (page_of a.rate.now a.channels.now a.recipe.now) a.out.now _ _ (Err _) (asked _ _ _ _ _ p c.page_size-needed.ensures c.in-Refused.ensures) refl in
-    record { all = r.0; told = r.1 }
+    let v = asked _ _ _ _ _ p c.page_size-needed.ensures (sym c.in_err-require_room.was ∙ c.require_room.ensures) in
+    let e : c.from_residual.result ≡ Err c.in_err-require_room.field-0.0 = search rules in
+    rw e (concluded _ (page_of a.rate.now a.channels.now a.recipe.now) a.out.now (Err c.in_err-require_room.field-0.0) a.out.now (Err _) v refl).0
+
+pub returns-in_err-require_room-clause-told : goal.returns-in_err-require_room-clause-told
+unfolding page_call
+returns-in_err-require_room-clause-told c =
+    let a = c.args in
+    let p = page_is a.rate.now a.channels.now a.recipe.now _ _ c.format-format.ensures c.desk_question-verdict.ensures in
+    let v = asked _ _ _ _ _ p c.page_size-needed.ensures (sym c.in_err-require_room.was ∙ c.require_room.ensures) in
+    let e : c.from_residual.result ≡ Err c.in_err-require_room.field-0.0 = search rules in
+    rw e (concluded _ (page_of a.rate.now a.channels.now a.recipe.now) a.out.now (Err c.in_err-require_room.field-0.0) a.out.now (Err _) v refl).1
 
 pub write_page-requires : goal.write_page-requires
 write_page-requires c =
-    (desk_readable _ _ _ c.desk_question-verdict.ensures, room_enough _ _ (asked _ _ _ _ _ refl c.page_size-needed.ensures c.in_default.ensures))
+    (desk_readable _ _ _ c.desk_question-verdict.ensures, room_enough _ _ (asked _ _ _ _ _ refl c.page_size-needed.ensures (sym c.in_ok-require_room.was ∙ c.require_room.ensures)))
 
 pub returns : goal.returns
 unfolding page_call
@@ -40,5 +50,5 @@ returns c =
     let a = c.args in
     let p = page_is a.rate.now a.channels.now a.recipe.now _ _ c.format-format.ensures c.desk_question-verdict.ensures in
     let stored = c.write_page.ensures ∙ ap (λ (l : List ℕ). written l a.out.now) p in
-    let r = wrote _ (page_of a.rate.now a.channels.now a.recipe.now) a.out.now _ _ (c.page_size-needed.ensures ∙ ap length p) stored (asked _ _ _ _ _ p c.page_size-needed.ensures c.in_default.ensures) in
+    let r = wrote _ (page_of a.rate.now a.channels.now a.recipe.now) a.out.now _ _ (c.page_size-needed.ensures ∙ ap length p) stored (asked _ _ _ _ _ p c.page_size-needed.ensures (sym c.in_ok-require_room.was ∙ c.require_room.ensures)) in
     record { all = r.0; told = r.1 }

@@ -1,6 +1,6 @@
 -- Laws of the definitions in Page. Assumes nothing.
 use Rattle.std.specs.Prelude.{◌≡◌, refl, Bool, true, false, cond, List, [], ◌∷◌, ℕ, ◌*◌, ◌/◌, ◌%◌, ◌≤◌, leb, ltb, length, Result, Ok, Err}
-use Rattle.std.proofs.Common.{ap, arith, leb-true}
+use Rattle.std.proofs.Common.{sym, ap, arith, leb-true}
 use Rattle.pcm.specs.declared.PcmFormat.{PcmFormat}
 use Rattle.pcm.specs.declared.Error.{Error}
 use Rattle.pcm.specs.declared.Error.TheVariants.{TooLong}
@@ -29,7 +29,7 @@ accepted_whole f recipe h = go (open_call f recipe) refl h
 pub desk_readable : (f : PcmFormat) (recipe : List ℕ) (v : Verdict) → v ≡ desk_verdict f recipe → Readable v recipe
 unfolding desk_verdict
 desk_readable f recipe (Ok _) e =
-    let a = ask_yes (leb (length recipe) 1048576) TooLong (verdict_of (open_call f recipe)) (cc) in
+    let a = ask_yes (leb (length recipe) 1048576) TooLong (verdict_of (open_call f recipe)) (sym e) in
     (accepted_whole f recipe a.1, leb-true (length recipe) 1048576 a.0)
 desk_readable f recipe (Err x) e = tt
 
