@@ -1,10 +1,11 @@
 // Formats, refusals, limits and 16-bit samples, low byte first (lib.rs, elements/mod.rs).
 #![tactic(auto)]
 
-ghost use Rattle.std.specs.Prelude.{◌≡◌, ◌+◌, ◌<◌, length};
+ghost use Rattle.std.specs.Prelude.{◌≡◌, ℕ, ℤ, List, ◌+◌, ◌*◌, ◌≤◌, ◌<◌, length};
 ghost use Rattle.pcm.specs.Formats.{rate_allowed, format_allowed, frame_bytes};
+ghost use Rattle.pcm.specs.Frames.{written};
 ghost use Rattle.pcm.specs.Refusals.{refusal, number_of, room_verdict};
-ghost use Rattle.pcm.specs.Samples.{held16, outside16, saturated, sample_at, stored};
+ghost use Rattle.pcm.specs.Samples.{held16, outside16, saturated, sample_at, stored, encode, Gives};
 
 pub const MAX_CHANNELS: u16 = 2;
 
@@ -180,4 +181,15 @@ pub fn put_i16(s: &mut [u8], i: usize, v: i16)
     let bytes = v.to_le_bytes();
     s[i] = bytes[0];
     s[i + 1] = bytes[1];
+}
+
+// n samples at the front of out: the bytes of all zs, where `sample` gives each k below n the sample k of zs.
+pub fn write_samples<F: Fn(usize) -> i16>(out: &mut [u8], n: usize, sample: F)
+    requires room { 2 * n ≤ length out.old }
+    requires callable { (k : ℕ) → k < n → F.pre sample k }
+    ensures { (zs : List ℤ) → length zs ≡ n → Gives (F.post sample) n zs → out.new ≡ written (encode zs) out.old }
+{
+    for k in 0..n {
+        put_i16(out, 2 * k, sample(k));
+    }
 }
