@@ -121,7 +121,11 @@ fn scale(x: i16, q: i32) -> i16
     ensures { result ≡ scaled q x }
 {
     let p = q.unsigned_abs();
-    if q < 0 { scale_negative(x, p) } else { scale_positive(x, p) }
+    if q < 0 {
+        scale_negative(x, p)
+    } else {
+        scale_positive(x, p)
+    }
 }
 
 // Each sample of input by the factor, at the front of out.
@@ -129,7 +133,11 @@ fn gain_samples(input: &[u8], out: &mut [u8], q: i32)
     requires { (length input.now % 2 ≡ 0) × (length input.now ≤ length out.old) × (nat_abs q ≤ 33554432) }
     ensures { out.new ≡ written (scaled_bytes q input.now) out.old }
 {
-    pcm::write_samples(out, input.len() / 2, |k| scale(pcm::get_i16(input, 2 * k), q));
+    pcm::write_samples(
+        out,
+        input.len() / 2,
+        |k| scale(pcm::get_i16(input, 2 * k), q),
+    );
 }
 
 // Does a sample lie outside lo to hi?

@@ -1,4 +1,4 @@
-use Rattle.std.proofs.Common.{◌≡◌, ap, ap₂, lit<, ◌≤◌, ℤ, nat_abs, ◌-ℤ◌, to_z, of_z}
+use Rattle.std.proofs.Common.{ap, ap₂, lit<, ◌≤◌, ℤ, nat_abs, ◌-ℤ◌}
 use Rattle.std.specs.Int.{w32}
 use Rattle.pcm.specs.Integers.{floor_div}
 use Rattle.pcm.specs.laws.Integers.{read_back, settled, sub_within, floor_within, fits_within}
