@@ -61,7 +61,6 @@ impl Gain {
     }
 
     // One sample.
-    #[tactic(auto, unfolding(crate::specs::Gain::scaled, pcm::specs::Samples::held))]
     pub fn apply(self, x: i16) -> i16
         ensures { result ≡ scaled self.q15 x }
     {
