@@ -1,3 +1,2 @@
-mod Channels
-mod Counts
+mod Samples
 mod Sums

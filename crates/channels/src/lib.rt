@@ -3,7 +3,7 @@
 
 ghost use Rattle.std.specs.Prelude.{◌≡◌, ◌+◌, ◌*◌, ◌/◌, ◌%◌, ◌≤◌, ◌<◌, ◌+ℤ◌, length};
 ghost use Rattle.pcm.specs.Frames.{written};
-ghost use Rattle.pcm.specs.Samples.{sample_at, encode, decode, outside16};
+ghost use Rattle.pcm.specs.Samples.{sample_at, decode, outside16};
 ghost use Rattle.mean.specs.Mean.{mean};
 ghost use Rattle.channels.specs.Channels.{stereo_bytes, mono_bytes, mixed, mixed_bytes, mix_clipped, mix_verdict, mix_answer, after_mix, mix_told, told_of_mixing};
 
@@ -14,15 +14,10 @@ pub fn mono_to_stereo(input: &[u8], out: &mut [u8])
     requires { (length input.now % 2 ≡ 0) × (length input.now * 2 ≤ length out.old) }
     ensures { out.new ≡ written (stereo_bytes input.now) out.old }
 {
-    let n = input.len();
-    let mut i: usize = 0;
-    let mut j: usize = 0;
-    while i < n {
-        let x = pcm::get_i16(input, i);
-        pcm::put_i16(out, j, x);
-        pcm::put_i16(out, j + 2, x);
-        i += 2;
-        j += 4;
+    for k in 0..input.len() / 2 {
+        let x = pcm::get_i16(input, 2 * k);
+        pcm::put_i16(out, 4 * k, x);
+        pcm::put_i16(out, 4 * k + 2, x);
     }
 }
 
@@ -34,69 +29,19 @@ fn mean_at(s: &[u8], i: usize) -> i16
     mean::mean_i16(pcm::get_i16(s, i), pcm::get_i16(s, i + 2))
 }
 
-// The means of sixteen frames.
-fn means(s: &[u8]) -> [i16; 16]
-    requires { length s.now ≡ 64 }
-    ensures { encode result ≡ mono_bytes s.now }
-{
-    let mut a = [0i16; 16];
-    let mut k: usize = 0;
-    while k < 16 {
-        a[k] = mean_at(s, 4 * k);
-        k += 1;
-    }
-    a
-}
-
-// Sixteen samples at the front of out.
-fn put_means(a: [i16; 16], out: &mut [u8])
-    requires { 32 ≤ length out.old }
-    ensures { out.new ≡ written (encode a) out.old }
-{
-    let mut k: usize = 0;
-    while k < 16 {
-        pcm::put_i16(out, 2 * k, a[k]);
-        k += 1;
-    }
-}
-
-// Each stereo frame of input as its mean, at the front of out, one by one.
-fn mix_down_each(input: &[u8], out: &mut [u8])
-    requires { (length input.now % 4 ≡ 0) × (length input.now / 2 ≤ length out.old) }
-    ensures { out.new ≡ written (mono_bytes input.now) out.old }
-{
-    let n = input.len();
-    let mut i: usize = 0;
-    let mut j: usize = 0;
-    while i < n {
-        pcm::put_i16(out, j, mean_at(input, i));
-        i += 4;
-        j += 2;
-    }
-}
-
-// Each stereo frame of input as its mean, at the front of out: sixteen at a time by way of an array, so that the compiler takes eight at
-// once, then the rest.
+// Each stereo frame of input as its mean, at the front of out.
 pub fn stereo_to_mono(input: &[u8], out: &mut [u8])
     requires { (length input.now % 4 ≡ 0) × (length input.now / 2 ≤ length out.old) }
     ensures { out.new ≡ written (mono_bytes input.now) out.old }
 {
-    let n = input.len();
-    let mut i: usize = 0;
-    let mut j: usize = 0;
-    while n - i >= 64 {
-        put_means(means(&input[i..i + 64]), &mut out[j..]);
-        i += 64;
-        j += 32;
-    }
-    mix_down_each(&input[i..], &mut out[j..]);
+    pcm::write_samples(out, input.len() / 4, |k| mean_at(input, 4 * k));
 }
 
 // The sum of two samples, held within the sample range.
 fn sum_i16(a: i16, b: i16) -> i16
     ensures { result ≡ mixed a b }
 {
-    pcm::held16((a as i32) + (b as i32))
+    pcm::held16(i32::from(a) + i32::from(b))
 }
 
 // The sums of the samples of a and b, at the front of out.
@@ -104,12 +49,11 @@ fn mix_block(a: &[u8], b: &[u8], out: &mut [u8])
     requires { (length a.now % 2 ≡ 0) × (length a.now ≡ length b.now) × (length a.now ≤ length out.old) }
     ensures { out.new ≡ written (mixed_bytes a.now b.now) out.old }
 {
-    let n = a.len();
-    let mut i: usize = 0;
-    while i < n {
-        pcm::put_i16(out, i, sum_i16(pcm::get_i16(a, i), pcm::get_i16(b, i)));
-        i += 2;
-    }
+    pcm::write_samples(
+        out,
+        a.len() / 2,
+        |k| sum_i16(pcm::get_i16(a, 2 * k), pcm::get_i16(b, 2 * k)),
+    );
 }
 
 // Is the sum of two samples held back? By the room that b leaves, so that the compiler gets by with 16 bits.
@@ -117,40 +61,21 @@ fn sum_outside(a: i16, b: i16) -> bool
     ensures { result ≡ outside16 (a +ℤ b) }
 {
     if b < 0 {
-        return (a as i32) < -32768 - (b as i32);
+        i32::from(a) < -32768 - i32::from(b)
+    } else {
+        i32::from(a) > 32767 - i32::from(b)
     }
-    (a as i32) > 32767 - (b as i32)
 }
 
-// The sums held back of at most 65,536 bytes, so that the count fits 16 bits and eight samples go at a time.
-fn span_clipped(a: &[u8], b: &[u8]) -> u16
-    requires { (length a.now % 2 ≡ 0) × (length a.now ≡ length b.now) × (length a.now ≤ 65536) }
-    ensures { result ≡ mix_clipped (decode a.now) (decode b.now) }
-{
-    let n = a.len();
-    let mut i: usize = 0;
-    let mut c: u16 = 0;
-    while i < n {
-        c += counting::one(sum_outside(pcm::get_i16(a, i), pcm::get_i16(b, i))) as u16;
-        i += 2;
-    }
-    c
-}
-
-// The same of any number of bytes.
+// How many sums are held back.
 fn mix_clipped(a: &[u8], b: &[u8]) -> usize
     requires { (length a.now % 2 ≡ 0) × (length a.now ≡ length b.now) }
     ensures { result ≡ mix_clipped (decode a.now) (decode b.now) }
 {
-    let n = a.len();
-    let mut at: usize = 0;
-    let mut c: usize = 0;
-    while at < n {
-        let to = at + counting::least(n - at, 65536);
-        c += span_clipped(&a[at..to], &b[at..to]) as usize;
-        at = to;
-    }
-    c
+    counting::count_where(
+        a.len() / 2,
+        |k| sum_outside(pcm::get_i16(a, 2 * k), pcm::get_i16(b, 2 * k)),
+    )
 }
 
 // Two streams of equal and even length summed to the front of out, saturating: how many sums were held back. A refusal leaves out as it

@@ -1,3 +1,3 @@
 pub mod Counting
 pub mod Limits
-pub mod Loops
+pub mod Parts

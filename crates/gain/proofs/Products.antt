@@ -1,13 +1,11 @@
 -- The products of a sample and a factor, by their sizes, and the product taken in two parts. Assumes nothing.
-use mathlib.Core.Path.{◌≡◌, refl, sym, ap, ap₂, ◌∙◌, subst}
-use mathlib.Core.Bool.{true, false}
+use mathlib.Core.Path.{◌≡◌, sym, ap, ap₂, ◌∙◌}
 use Prim.Native.Nat.{ℕ, suc, ◌+◌, ◌-◌, ◌*◌, ◌/◌, ◌%◌, ◌^◌, ◌≤◌, ◌<◌}
 use native.Mathlib.Decide.{dec_lt}
 use native.Mathlib.Omega.{arith}
-use borrow.Author.Tests.{ltb-true}
-use lib.Dec.{T, lit<}
+use lib.Dec.{lit<}
 use lib.IntN.{ℤ, pos, negsuc, neg_ℤ, nat_abs, sub_ℕ, ◌+ℤ◌, ◌-ℤ◌, ◌*ℤ◌, +ℤ_assoc, +ℤ_comm, *ℤ_comm, neg_ℤ-+ℤ, neg_ℤ-neg_ℤ}
-use lib.Signed.{mag, lt_z}
+use lib.Signed.{mag}
 use mir.Syntax.{Width, w16, w32}
 use mir.Val.{SFits, hbits, to_z, of_z}
 use Rattle.pcm.specs.Integers.{floor_div}
@@ -102,12 +100,3 @@ difference_fits a b h k = fits_within w32 (a -ℤ b) (sub_within a b h k) (lit< 
 pub scaled_read : {z n : ℤ} (x q : ℤ) → mag z < 2 ^ hbits w16 → z ≡ held16 (to_z w32 (of_z w32 n)) → SFits w32 n → n ≡ floor_div (x *ℤ q +ℤ pos 16384) 32768 → to_z w16 (of_z w16 z) ≡ scaled q x
 unfolding scaled
 scaled_read x q h e f g = answered w16 h (e ∙ ap held16 (read_back f ∙ g))
-
--- ---- the magnitude of a factor
-pub below-zero : (z : ℤ) → lt_z z (pos 0) ≡ true → neg_ℤ (pos (nat_abs z)) ≡ z
-below-zero (pos n) e = absurd (omega (arith, ltb-true n 0 e))
-below-zero (negsuc n) e = refl
-
-pub from_zero : (z : ℤ) → lt_z z (pos 0) ≡ false → pos (nat_abs z) ≡ z
-from_zero (pos n) e = refl
-from_zero (negsuc n) e = absurd (subst T e tt)

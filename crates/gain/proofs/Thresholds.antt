@@ -72,25 +72,7 @@ module _ {q : ℤ} {p down up : ℕ} (t : Tests q p down up) where
   unfolding clipped_in
   counted s l h xs f = ap₂ (λ a b. count_of (outside a b) xs) l h ∙ sym (count_same (clipped_by q) _ (clips s) xs f)
 
--- ---- the factors that hold a sample back, and the count of a block
-pub factor_above : (q : ℤ) → lt_z (pos 32768) q ≡ true → 32768 < nat_abs q
-factor_above (pos n) e = ltb-true 32768 n e
-factor_above (negsuc n) e = absurd (subst T (sym e) tt)
-
-pub factor_below : (q : ℤ) → lt_z q (negsuc 32766) ≡ true → 32767 < nat_abs q
-factor_below (pos n) e = absurd (subst T (sym e) tt)
-factor_below (negsuc n) e = omega (arith, ltb-true 32766 n e)
-
--- their lower thresholds are samples
-low_threshold : (b p : ℕ) → 0 < p → b < 32768 * p → b / p ≤ 32767
-low_threshold b p h k = let d : b / p < 32768 = (div-lt_iff_lt-mul h).1 k in omega arith
-
-pub low_above : (p : ℕ) → 32768 < p → 1073758208 / p ≤ 32767
-low_above p h = low_threshold 1073758208 p (omega arith) (omega arith)
-
-pub low_below : (p : ℕ) → 32767 < p → 1073725439 / p ≤ 32767
-low_below p h = low_threshold 1073725439 p (omega arith) (omega arith)
-
+-- ---- the count of a block
 pub count_above : (q : ℤ) {lo hi : ℤ} → lt_z (pos 32768) q ≡ true → lo ≡ − (1073758208 / nat_abs q) → hi ≡ pos (min (1073725439 / nat_abs q) 32767) → (xs : List ℤ) → Samples xs → count_of (outside lo hi) xs ≡ clipped_in q xs
 count_above (pos n) e l h xs f = counted (positive n) (omega (arith, ltb-true 32768 n e)) l h xs f
 count_above (negsuc n) e l h xs f = absurd (subst T (sym e) tt)

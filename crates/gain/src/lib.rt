@@ -9,7 +9,10 @@ ghost use Rattle.counting.specs.Counting.{count_of};
 ghost use Rattle.gain.specs.Clipping.{clipped_in};
 ghost use Rattle.gain.specs.Gain.{factor_allowed, held_factor, linear_factor, scaled, scaled_bytes, unity};
 
-#[derive(Clone, Copy)]
+// A factor's greatest size, 1024.0.
+const LIMIT: i32 = 33554432;
+
+#[derive(Clone, Copy, PartialEq, Eq)]
 pub struct Gain {
     pub q15: i32,
 }
@@ -25,16 +28,13 @@ impl Gain {
     }
 
     // A raw Q15 factor, held within the limit.
+    #[tactic(auto, unfolding(crate::specs::Gain::held_factor, pcm::specs::Samples::held))]
     pub fn from_q15(q15: i32) -> Gain
         ensures { result.q15 ≡ held_factor q15 }
     {
-        if q15 < -33554432 {
-            return Gain { q15: -33554432 };
+        Gain {
+            q15: q15.clamp(-LIMIT, LIMIT),
         }
-        if q15 > 33554432 {
-            return Gain { q15: 33554432 };
-        }
-        Gain { q15 }
     }
 
     // A linear factor; a negative one inverts.
@@ -50,11 +50,7 @@ impl Gain {
     pub fn allowed(self) -> bool
         ensures { result ≡ factor_allowed self.q15 }
     {
-        let q = self.q15;
-        if q < -33554432 {
-            return false;
-        }
-        q <= 33554432
+        (-LIMIT..=LIMIT).contains(&self.q15)
     }
 
     // The Q15 factor in use.
@@ -68,7 +64,7 @@ impl Gain {
     pub fn apply(self, x: i16) -> i16
         ensures { result ≡ scaled self.q15 x }
     {
-        scale_full(x, self.q15)
+        ((i64::from(x) * i64::from(self.q15) + 16384) >> 15).clamp(-32768, 32767) as i16
     }
 
     // Each sample of input, at the front of out; how many were held back.
@@ -76,53 +72,21 @@ impl Gain {
         requires { (length input.now % 2 ≡ 0) × (length input.now ≤ length out.old) × (nat_abs self.q15 ≤ 33554432) }
         ensures { (out.new ≡ written (scaled_bytes self.q15 input.now) out.old) × (result ≡ clipped_in self.q15 (decode input.now)) }
     {
-        let q = self.q15;
-        if q == 32768 {
+        if self == Gain::UNITY {
             copying::copy_front(input, out);
             return 0;
         }
-        let clipped = count_clipped(input, q);
-        gain_samples(input, out, q);
+        let clipped = count_clipped(input, self.q15);
+        gain_samples(input, out, self.q15);
         clipped
     }
-}
-
-// A number held within the sample range.
-fn sat16_wide(v: i64) -> i16
-    ensures { result ≡ held16 v }
-{
-    if v < -32768 {
-        return -32768;
-    }
-    if v > 32767 {
-        return 32767;
-    }
-    v as i16
-}
-
-// One sample, whatever the factor.
-fn scale_full(x: i16, q: i32) -> i16
-    ensures { result ≡ scaled q x }
-{
-    sat16_wide(((x as i64) * (q as i64) + 16384) >> 15)
-}
-
-// The factor without its sign.
-fn magnitude(q: i32) -> u32
-    requires { nat_abs q ≤ 33554432 }
-    ensures { result ≡ nat_abs q }
-{
-    if q < 0 {
-        return (0 - q) as u32;
-    }
-    q as u32
 }
 
 // x times the low 15 bits of k: the compiler sees that a product of 16-bit numbers will do.
 fn times(x: i16, k: u32) -> i32
     ensures { result ≡ x *ℤ pos (k % 32768) }
 {
-    (x as i32) * ((k % 32768) as i32)
+    i32::from(x) * ((k % 32768) as i32)
 }
 
 // floor((half - x * l) / 32,768), where l is the low 15 bits of p.
@@ -155,11 +119,12 @@ fn scale(x: i16, q: i32) -> i16
     requires { nat_abs q ≤ 33554432 }
     ensures { result ≡ scaled q x }
 {
-    let p = magnitude(q);
+    let p = q.unsigned_abs();
     if q < 0 {
-        return scale_negative(x, p);
+        scale_negative(x, p)
+    } else {
+        scale_positive(x, p)
     }
-    scale_positive(x, p)
 }
 
 // Each sample of input by the factor, at the front of out.
@@ -167,63 +132,34 @@ fn gain_samples(input: &[u8], out: &mut [u8], q: i32)
     requires { (length input.now % 2 ≡ 0) × (length input.now ≤ length out.old) × (nat_abs q ≤ 33554432) }
     ensures { out.new ≡ written (scaled_bytes q input.now) out.old }
 {
-    let n = input.len();
-    let mut i: usize = 0;
-    while i < n {
-        pcm::put_i16(out, i, scale(pcm::get_i16(input, i), q));
-        i += 2;
-    }
+    pcm::write_samples(
+        out,
+        input.len() / 2,
+        |k| scale(pcm::get_i16(input, 2 * k), q),
+    );
 }
 
 // Does a sample lie outside lo to hi?
+#[tactic(auto, unfolding(pcm::specs::Samples::outside))]
 fn outside(x: i16, lo: i16, hi: i16) -> bool
     ensures { result ≡ outside lo hi x }
 {
-    if x < lo {
-        return true;
-    }
-    x > hi
+    !(lo..=hi).contains(&x)
 }
 
-// The samples outside lo to hi of at most 65,536 bytes, so that the count fits 16 bits and eight samples go at a time.
-fn span_outside(s: &[u8], lo: i16, hi: i16) -> u16
-    requires { (length s.now % 2 ≡ 0) × (length s.now ≤ 65536) }
-    ensures { result ≡ count_of (outside lo hi) (decode s.now) }
-{
-    let n = s.len();
-    let mut i: usize = 0;
-    let mut c: u16 = 0;
-    while i < n {
-        c += counting::one(outside(pcm::get_i16(s, i), lo, hi)) as u16;
-        i += 2;
-    }
-    c
-}
-
-// The same of any number of bytes.
+// How many samples lie outside lo to hi.
 fn count_outside(s: &[u8], lo: i16, hi: i16) -> usize
     requires { length s.now % 2 ≡ 0 }
     ensures { result ≡ count_of (outside lo hi) (decode s.now) }
 {
-    let n = s.len();
-    let mut at: usize = 0;
-    let mut c: usize = 0;
-    while at < n {
-        let to = at + counting::least(n - at, 65536);
-        c += span_outside(&s[at..to], lo, hi) as usize;
-        at = to;
-    }
-    c
+    counting::count_where(s.len() / 2, |k| outside(pcm::get_i16(s, 2 * k), lo, hi))
 }
 
 // n as the highest sample that is not held back.
 fn top(n: u32) -> i16
     ensures { result ≡ pos (min n 32767) }
 {
-    if n < 32767 {
-        return n as i16;
-    }
-    32767
+    n.min(32767) as i16
 }
 
 // -n as the lowest.
@@ -231,7 +167,7 @@ fn bottom(n: u32) -> i16
     requires { n ≤ 32767 }
     ensures { result ≡ − n }
 {
-    (0 - (n as i32)) as i16
+    -(n as i32) as i16
 }
 
 // How many samples of input the factor holds back. A product above 1,073,725,439 rounds to more than 32,767, and one below
@@ -240,12 +176,12 @@ fn count_clipped(input: &[u8], q: i32) -> usize
     requires { (length input.now % 2 ≡ 0) × (nat_abs q ≤ 33554432) }
     ensures { result ≡ clipped_in q (decode input.now) }
 {
-    let p = magnitude(q);
+    let p = q.unsigned_abs();
     if q > 32768 {
-        return count_outside(input, bottom(1073758208 / p), top(1073725439 / p));
+        count_outside(input, bottom(1073758208 / p), top(1073725439 / p))
+    } else if q < -32767 {
+        count_outside(input, bottom(1073725439 / p), top(1073758208 / p))
+    } else {
+        0
     }
-    if q < -32767 {
-        return count_outside(input, bottom(1073725439 / p), top(1073758208 / p));
-    }
-    0
 }

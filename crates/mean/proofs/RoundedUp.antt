@@ -11,12 +11,12 @@ use lib.Ieee.Nearest.{closest}
 use lib.IntN.{ℤ, pos, negsuc, nat_abs, sub_ℕ, ◌+ℤ◌, ◌-ℤ◌, +ℤ_one}
 use mir.Syntax.{w16, w32}
 use mir.Val.{SFits, of_z}
-use mir.Facts.{sfits_lit}
+use mir.Facts.{sfits_lit, sfits_widen}
 use Rattle.pcm.specs.Integers.{−, floor_div, nearest_div}
 use Rattle.pcm.specs.laws.Integers.{sub_lt, sub_ge, pos_sub_pos}
 use Rattle.pcm.specs.laws.Nearest.{by_parity, Nearest, closest_nearest}
 use Rattle.pcm.specs.laws.Tests.{both, true_false}
-use Rattle.pcm.specs.laws.Sums.{SumRange, sum_range}
+use Rattle.pcm.specs.laws.Sums.{SumRange, sum_range, summed}
 use Rattle.mean.specs.Mean.{mean}
 
 -- ---- parity, by numbers and by bits
@@ -42,9 +42,6 @@ sum_parity (pos a) (pos b) = refl
 sum_parity (pos a) (negsuc b) = sub_parity a b
 sum_parity (negsuc a) (pos b) = sub_parity b a ∙ omega arith
 sum_parity (negsuc a) (negsuc b) = omega arith
-
-pub last_bit : (z : ℤ) → SFits w16 z → not (eqb (bit_and (of_z w16 z) 1) 0) ≡ is_odd (nat_abs z)
-last_bit z f = ap (λ (n : ℕ). not (eqb n 0)) (and_mask (of_z w16 z) 1 ∙ bits_parity z f) ∙ even_test (nat_abs z)
 
 -- l ^ r ends as l + r does
 pub last_bit_of_sum : (l r : ℤ) → SFits w16 l → SFits w16 r → not (eqb (bit_and (bit_xor (of_z w16 l) (of_z w16 r)) 1) 0) ≡ is_odd (nat_abs (l +ℤ r))
@@ -108,6 +105,14 @@ up (negsuc (suc m)) h = subst (HalfUp (negsuc (suc m))) (sym (+ℤ_one (negsuc (
 abbrev pub mean_up : ℤ → ℤ → ℤ
 mean_up l r = floor_div (l +ℤ r +ℤ pos 1) 2
 
+pub record Sizes (l r : ℤ) : Type 0 where
+  pub left : SFits w32 l
+  pub right : SFits w32 r
+  pub sum : SFits w32 (l +ℤ r)
+  pub more : SFits w32 (l +ℤ r +ℤ pos 1)
+  pub above : SFits w16 (mean_up l r)
+  pub wide : SFits w32 (mean_up l r)
+
 -- the sum is odd, and so is the mean rounded up
 abbrev pub goes_down : ℤ → ℤ → Bool
 goes_down l r = is_odd (nat_abs (l +ℤ r)) && is_odd (nat_abs (mean_up l r))
@@ -119,11 +124,11 @@ module _ (l r : ℤ) (f : SFits w16 l) (g : SFits w16 r) where
   half_up_lem : HalfUp (l +ℤ r) (l +ℤ r +ℤ pos 1)
   half_up_lem = up (l +ℤ r) (sum_range l r f g)
 
-  pub plus_one_fits : SFits w32 (l +ℤ r +ℤ pos 1)
-  plus_one_fits = half_up_lem.wide
-
-  pub up_fits : SFits w16 (mean_up l r)
-  up_fits = half_up_lem.fits
+  -- what fits on the way
+  pub sizes : Sizes l r
+  sizes =
+      let s = summed l r f g in
+      record { left = s.left; right = s.right; sum = s.sum; more = half_up_lem.wide; above = half_up_lem.fits; wide = sfits_widen tt half_up_lem.fits }
 
   pub mean_below : goes_down l r ≡ true → mean_up l r -ℤ pos 1 ≡ mean l r
   unfolding mean

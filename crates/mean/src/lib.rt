@@ -15,7 +15,7 @@ fn goes_down(above: i16) -> bool
 pub fn mean_i16(l: i16, r: i16) -> i16
     ensures { result ≡ mean l r }
 {
-    let above = (((l as i32) + (r as i32) + 1) >> 1) as i16;
+    let above = ((i32::from(l) + i32::from(r) + 1) >> 1) as i16;
     if ((l ^ r) & 1 != 0) & goes_down(above) {
         above - 1
     } else {

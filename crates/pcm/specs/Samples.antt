@@ -1,5 +1,5 @@
 -- A sample is 16-bit signed, low byte first (document 01, lib.rs). Definitions only.
-use Rattle.std.specs.Prelude.{Bool, cond, ◌||◌, List, [], ◌∷◌, ℕ, ◌+◌, ◌*◌, ◌/◌, ◌%◌, ◌<◌, ℤ, pos, get_or, set}
+use Rattle.std.specs.Prelude.{◌≡◌, Bool, cond, ◌||◌, List, [], ◌∷◌, ℕ, ◌+◌, ◌*◌, ◌/◌, ◌%◌, ◌<◌, ℤ, pos, get_or, set}
 use Rattle.std.specs.Int.Signed.{lt_z}
 use Rattle.std.specs.Int.{w16}
 use Rattle.std.proofs.Common.{SFits, to_z, of_z}
@@ -68,3 +68,7 @@ Bytes bytes = All (λ (b : ℕ). b < 256) bytes
 -- samples within 16 bits
 abbrev pub Samples : List ℤ → Type 0
 Samples zs = All (SFits w16) zs
+
+-- what is answered of each k below n is sample k of zs
+abbrev pub Gives : (ℕ → ℤ → Type 0) → ℕ → List ℤ → Type 0
+Gives answer n zs = (k : ℕ) (z : ℤ) → k < n → answer k z → z ≡ get_or zs k (pos 0)

@@ -1,10 +1,11 @@
 // Formats, refusals, limits and 16-bit samples, low byte first (lib.rs, elements/mod.rs).
 #![tactic(auto)]
 
-ghost use Rattle.std.specs.Prelude.{◌≡◌, ◌+◌, ◌<◌, length};
+ghost use Rattle.std.specs.Prelude.{◌≡◌, ℕ, ℤ, List, ◌+◌, ◌*◌, ◌≤◌, ◌<◌, length};
 ghost use Rattle.pcm.specs.Formats.{rate_allowed, format_allowed, frame_bytes};
+ghost use Rattle.pcm.specs.Frames.{written};
 ghost use Rattle.pcm.specs.Refusals.{refusal, room_verdict};
-ghost use Rattle.pcm.specs.Samples.{held16, outside16, saturated, sample_of, sample_at, stored};
+ghost use Rattle.pcm.specs.Samples.{held16, outside16, saturated, sample_at, stored, encode, Gives};
 
 pub const MAX_CHANNELS: u16 = 2;
 
@@ -13,46 +14,39 @@ pub const MAX_RATE: u32 = 384000;
 pub const MAX_FRAMES: usize = 8192;
 
 // How sound is laid out: frames a second, and samples a frame.
-#[derive(Clone, Copy)]
+#[derive(Clone, Copy, PartialEq, Eq)]
 pub struct PcmFormat {
     pub rate: u32,
     pub channels: u16,
 }
 
 // Is a rate within its limit?
+#[tactic(auto, unfolding(crate::specs::Formats::rate_allowed))]
 pub fn rate_allowed(rate: u32) -> bool
     ensures { result ≡ rate_allowed rate }
 {
-    if rate == 0 {
-        return false;
-    }
-    rate <= MAX_RATE
+    (1..=MAX_RATE).contains(&rate)
 }
 
 impl PcmFormat {
     // Are the rate and the channel count within their limits?
+    #[tactic(auto, unfolding(crate::specs::Formats::format_allowed, crate::specs::Formats::channels_allowed))]
     pub fn allowed(self) -> bool
         ensures { result ≡ format_allowed self }
     {
-        if self.channels == 0 {
-            return false;
-        }
-        if self.channels > MAX_CHANNELS {
-            return false;
-        }
-        rate_allowed(self.rate)
+        (1..=MAX_CHANNELS).contains(&self.channels) && rate_allowed(self.rate)
     }
 
     // The bytes of one frame.
     pub fn frame_bytes(self) -> usize
         ensures { result ≡ frame_bytes self }
     {
-        (self.channels as usize) * 2
+        usize::from(self.channels) * 2
     }
 }
 
 // Why a call is refused. The first four are the source's.
-#[derive(Clone, Copy)]
+#[derive(Clone, Copy, PartialEq, Eq)]
 pub enum Error {
     InvalidFormat,
     Unsupported,
@@ -119,56 +113,55 @@ pub struct Saturated {
 pub fn sat16(v: i32) -> Saturated
     ensures { result ≡ saturated v }
 {
-    let sample = held16(v);
-    let clipped = outside16(v);
-    Saturated { sample, clipped }
+    Saturated {
+        sample: held16(v),
+        clipped: outside16(v),
+    }
 }
 
 // The sample alone.
+#[tactic(auto, unfolding(crate::specs::Samples::held))]
 pub fn held16(v: i32) -> i16
     ensures { result ≡ held16 v }
 {
-    if v < -32768 {
-        return -32768;
-    }
-    if v > 32767 {
-        return 32767;
-    }
-    v as i16
+    v.clamp(-32768, 32767) as i16
 }
 
 // Whether it is held back.
+#[tactic(auto, unfolding(crate::specs::Samples::outside))]
 pub fn outside16(v: i32) -> bool
     ensures { result ≡ outside16 v }
 {
-    if v < -32768 {
-        return true;
-    }
-    v > 32767
-}
-
-// The sample that two bytes hold.
-fn sample(lo: u8, hi: u8) -> i16
-    ensures { result ≡ sample_of lo hi }
-{
-    let u = (lo as u32) + 256 * (hi as u32);
-    ((((u + 32768) % 65536) as i32) - 32768) as i16
+    !(-32768..=32767).contains(&v)
 }
 
 // The sample at the bytes i and i + 1.
+#[tactic(auto, unfolding(crate::specs::Samples::sample_at, crate::specs::Samples::sample_of))]
 pub fn get_i16(s: &[u8], i: usize) -> i16
     requires { i + 1 < length s.now }
     ensures { result ≡ sample_at s.now i }
 {
-    sample(s[i], s[i + 1])
+    i16::from_le_bytes([s[i], s[i + 1]])
 }
 
 // The sample v to the bytes i and i + 1.
+#[tactic(auto, unfolding(crate::specs::Samples::stored, crate::specs::Samples::low_of, crate::specs::Samples::high_of))]
 pub fn put_i16(s: &mut [u8], i: usize, v: i16)
     requires { i + 1 < length s.old }
     ensures { s.new ≡ stored s.old i v }
 {
-    let u = (((v as i32) + 65536) as u32) % 65536;
-    s[i] = (u % 256) as u8;
-    s[i + 1] = (u / 256) as u8;
+    let bytes = v.to_le_bytes();
+    s[i] = bytes[0];
+    s[i + 1] = bytes[1];
+}
+
+// n samples at the front of out: the bytes of all zs, where `sample` gives each k below n the sample k of zs.
+pub fn write_samples<F: Fn(usize) -> i16>(out: &mut [u8], n: usize, sample: F)
+    requires room { 2 * n ≤ length out.old }
+    requires callable { (k : ℕ) → k < n → F.pre sample k }
+    ensures { (zs : List ℤ) → length zs ≡ n → Gives (F.post sample) n zs → out.new ≡ written (encode zs) out.old }
+{
+    for k in 0..n {
+        put_i16(out, 2 * k, sample(k));
+    }
 }

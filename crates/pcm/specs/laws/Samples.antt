@@ -2,7 +2,8 @@
 use Rattle.std.specs.Prelude.{◌≡◌, refl, Bool, true, false, cond, List, [], ◌∷◌, ◌++◌, ℕ, zero, suc, ◌+◌, ◌*◌, ◌/◌, ◌%◌, ◌≤◌, ◌<◌, ℤ, pos, negsuc, ◌-ℤ◌, length, get_or}
 use Rattle.std.proofs.Common.{sym, ap, ap₂, ◌∙◌, ⊎_elim, suc-le-suc, zero-le, not-suc-le-zero, arith, ltb-false, lt-ltb, le-ltb, SFits, to_z, of_z, to_z-of_z}
 use Rattle.std.specs.Int.Signed.{lt_z}
-use Rattle.std.specs.Int.{Width, w16, w32}
+use Rattle.std.specs.Int.{Width, w16, w32, int_max, int_min}
+use Rattle.std.proofs.lemmas.Grind.{common_steps}
 use Rattle.std.proofs.Math.Facts.{to_z_pos, of_z-to_z, sfits_to_z, sfits_lit}
 use Rattle.pcm.specs.Integers.{−}
 use Rattle.pcm.specs.laws.Integers.{read_back}
@@ -59,6 +60,11 @@ held_fits z = go (lt_z z (− 32768)) (lt_z (pos 32767) z) refl refl
 pub held_sample : (z : ℤ) → SFits w16 z → held16 z ≡ z
 held_sample (pos n) f = sym (held_inside (− 32768) (pos 32767) (pos n) refl (le-ltb 32767 n (omega (arith, f.sfits))))
 held_sample (negsuc n) f = sym (held_inside (− 32768) (pos 32767) (negsuc n) (le-ltb 32767 n (omega (arith, f.sfits))) refl)
+
+-- the library's `clamp`
+pub clamped : (z : ℤ) → int_max (− 32768) (int_min z (pos 32767)) ≡ held16 z
+unfolding held
+clamped z = grind (arith, common_steps)
 
 -- ---- bytes and samples, there and back
 pub all_by_index : {A : Type 0} (P : A → Type 0) (d : A) (xs : List A) → ((i : ℕ) → i < length xs → P (get_or xs i d)) → All P xs

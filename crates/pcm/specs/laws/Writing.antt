@@ -1,12 +1,16 @@
 -- A block written to the front of a buffer, byte by byte and sample by sample. Assumes nothing.
-use Rattle.std.specs.Prelude.{◌≡◌, refl, List, [], ◌∷◌, ◌++◌, ℕ, suc, ◌+◌, ◌≤◌, ◌<◌, ℤ, length, take, drop, set, get_or}
+use Rattle.std.specs.Prelude.{◌≡◌, refl, List, [], ◌∷◌, ◌++◌, ℕ, suc, ◌+◌, ◌≤◌, ◌<◌, ℤ, pos, length, take, drop, set, get_or}
 use Rattle.std.proofs.Common.{sym, ap, ◌∙◌, subst, append_assoc, add-one, arith, length-set, take-append-drop, drop_of_length-le, take-suc-set, drop-set-lt, drop-cons}
-use Rattle.pcm.specs.Samples.{low_of, high_of, stored}
+use Rattle.pcm.specs.Samples.{low_of, high_of, encode, stored}
 use Rattle.pcm.specs.Frames.{written}
 
 -- the next byte of a block, and what is left after it
 pub next_byte : (l : List ℕ) (i : ℕ) → i < length l → drop i l ≡ get_or l i 0 ∷ drop (i + 1) l
 next_byte l i h = drop-cons l i 0 h ∙ ap (λ (k : ℕ). get_or l i 0 ∷ drop k l) (sym (add-one i))
+
+-- the bytes of the next sample, and of those after it
+pub next_sample : (zs : List ℤ) (k : ℕ) → k < length zs → encode (drop k zs) ≡ low_of (get_or zs k (pos 0)) ∷ high_of (get_or zs k (pos 0)) ∷ encode (drop (k + 1) zs)
+next_sample zs k h = ap encode (drop-cons zs k (pos 0) h) ∙ rw add-one
 
 -- `out`, which was `out₀` where the loop began, has its first j bytes written, `rest` is to follow, and from m on it is as it was:
 -- at the end it is `goal`
