@@ -1,5 +1,5 @@
 -- In room that is enough the page is written whole: what the call answers, and what then stands at the front. Assumes nothing.
-use Rattle.std.specs.Prelude.{Ok, Err, Result}
+use Rattle.std.specs.Prelude.{Ok, Result}
 use Rattle.std.proofs.Common.{◌≡◌, ◌∙◌, ap, sym, arith, ◌≤◌, ◌*◌, length, take, ℕ, List}
 use Rattle.std.proofs.Math.Seq.{take-append_seam}
 use Rattle.std.proofs.lemmas.List.{length-take}
@@ -13,36 +13,23 @@ use Rattle.note_lines.specs.Theorems.{page_written}
 abbrev outcome : (Result ℕ Error) → List ℕ → WriteOutcome
 outcome x out = record { answer = x; out = out }
 
--- what is written is not refused
-written_refused : {n : ℕ} {e : Error} → Ok n ≡ Err e → ⊥
-written_refused e = let z : ◌≡◌ {A = ℕ} 0 1 = cc in omega arith
-
-written_count : {n m : ℕ} → Ok n ≡ Ok m → n ≡ m
-written_count e = cc
-
 module _ (rate channels recipe out new : List ℕ) (r : (Result ℕ Error))
     (call : outcome r new ≡ page_call (page_of rate channels recipe) out) (h : 2 * length recipe ≤ length out) (k : 3 ≤ length out) where
-  abbrev bytes : List ℕ
+  abbrev pub bytes : List ℕ
   bytes = page_of rate channels recipe
 
   whole : outcome r new ≡ outcome (Ok (length bytes)) (written bytes out)
   whole = call ∙ page_written rate channels recipe out h k
 
-  answered : r ≡ Ok (length bytes)
+  pub answered : r ≡ Ok (length bytes)
   answered = ap (λ (o : WriteOutcome). o.answer) whole
 
-  front : take (length bytes) new ≡ bytes
+  pub front : take (length bytes) new ≡ bytes
   unfolding written
   front = ap (λ (o : WriteOutcome). take (length bytes) o.out) whole ∙ take-append_seam bytes _
 
-  pub not_refused : (e : Error) → r ≡ Err e → ⊥
-  not_refused e z = written_refused (sym answered ∙ z)
-
-  pub page_at_front : (n : ℕ) → r ≡ Ok n → take n new ≡ bytes
-  page_at_front n z = rw (written_count (sym z ∙ answered)) front
-
-  pub page_counted : (n : ℕ) → r ≡ Ok n → IsPrefixLen n new
-  page_counted n z =
+  pub counted : IsPrefixLen (length bytes) new
+  counted =
       let f = ap length front in
       let l = length-take (length bytes) new in
-      rw (written_count (sym z ∙ answered)) (omega (arith, f, l), sym f)
+      (omega (arith, f, l), sym f)
