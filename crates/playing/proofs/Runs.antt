@@ -33,10 +33,10 @@ runs_start c f size count sound a b out =
 never : {n : ℕ} {e : Error} → Ok n ≡ Err e → ⊥
 never h = let z : ◌≡◌ {A = ℕ} 0 1 = cc in omega arith
 
-same_bytes : {n m : ℕ} → Ok n ≡ Ok m → n ≡ m
+same_bytes : {n m : ℕ} → ◌≡◌ {A = Result ℕ Error} (Ok n) (Ok m) → n ≡ m
 same_bytes h = cc
 
-same_error : {e d : Error} → Err e ≡ Err d → e ≡ d
+same_error : {e d : Error} → ◌≡◌ {A = Result ℕ Error} (Err e) (Err d) → e ≡ d
 same_error h = cc
 
 module _ {c : Pipeline} {f : PcmFormat} {size count : ℕ} {sound a₀ b₀ out₀ : List ℕ} {moved : Pipeline} {n at more : ℕ} {a b out : List ℕ} (o : Runs c f size count sound a₀ b₀ out₀ moved n at more a b out) where

@@ -111,7 +111,7 @@ returns c =
     run_is l _ (runs_stopped l.loop-i.invariant.2 (later_of l) (one_less p.before.before.before.before.before) (result_of p) (call_is p) (join_of j) (join_is j) _ c.in_default.is)
 
 -- it goes on
-abbrev onward : tie.In-Bytes invariant-loop decreases-loop → tie.After-join-gathered invariant-loop decreases-loop
+abbrev onward : tie.In-Ok invariant-loop decreases-loop → tie.After-join-gathered invariant-loop decreases-loop
 onward c = c.before.before.before
 
 loop-again : tie.Need-loop-i-preserved invariant-loop decreases-loop
@@ -122,7 +122,7 @@ loop-again c =
       kept_a p,
       kept_b p,
       rw p.block_end-end.ensures
-          (runs_onward l.loop-i.invariant.2 (later_of l) (one_less p.before.before.before.before.before) (result_of p) (call_is p) (join_of j) (join_is j) c.in-Bytes.m c.in-Bytes.is),
+          (runs_onward l.loop-i.invariant.2 (later_of l) (one_less p.before.before.before.before.before) (result_of p) (call_is p) (join_of j) (join_is j) c.in-Ok.m c.in-Ok.is),
     )
 
 -- ---- the finish
