@@ -114,7 +114,8 @@ fn upsampled(rt: &impl Print) -> io::Result<()> {
         "8,000 to 16,000 Hz",
         mono(8000),
         b"\x0a\x00\x04\x00\x40\x1f\x00\x00\x80\x3e\x00\x00",
-    )? else {
+    )?
+    else {
         return Ok(());
     };
     let sound = b"\x00\x00\x64\x00\x32\x00";
@@ -136,7 +137,8 @@ fn halved(rt: &impl Print) -> io::Result<()> {
         "16,000 to 8,000 Hz",
         mono(16000),
         b"\x0a\x00\x04\x00\x80\x3e\x00\x00\x40\x1f\x00\x00",
-    )? else {
+    )?
+    else {
         return Ok(());
     };
     let sound = b"\x0a\x00\x14\x00\x1e\x00\x28\x00";
@@ -155,7 +157,8 @@ fn widened(rt: &impl Print) -> io::Result<()> {
         "1,000 to 1 to 1,000 to 4,000 Hz",
         mono(1000),
         b"\x0a\x00\x04\x00\xe8\x03\x00\x00\x01\x00\x00\x00\x0a\x00\x04\x00\x01\x00\x00\x00\xe8\x03\x00\x00\x0a\x00\x04\x00\xe8\x03\x00\x00\xa0\x0f\x00\x00",
-    )? else {
+    )?
+    else {
         return Ok(());
     };
     let mut sound = [0u8; 2002];

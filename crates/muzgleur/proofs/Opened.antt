@@ -7,9 +7,7 @@ use Prim.Native.Nat.{ℕ, zero, suc, ◌-◌, ◌≤◌, ◌<◌}
 use native.Mathlib.Omega.{arith}
 use lib.ListN.{length, replicate, length-append, length-replicate}
 use Rattle.pcm.specs.declared.PcmFormat.{PcmFormat}
-use Rattle.pcm.specs.declared.Error.TheVariants.{InvalidFormat}
-use Rattle.pcm.specs.Formats.{format_allowed}
-use Rattle.pcm.specs.Refusals.{ask, Verdict}
+use Rattle.pcm.specs.Refusals.{Verdict}
 use Rattle.pcm.specs.Samples.{All}
 use Rattle.pcm.specs.Frames.{written}
 use Rattle.pcm.specs.laws.Frames.{all_append}
@@ -20,7 +18,7 @@ use Rattle.recipe.specs.Records.{of_note, kind_at, record_at, record_verdict, re
 use Rattle.stage.specs.declared.Stage.{Stage}
 use Rattle.stage.specs.Stages.{stage_as_opened, format_after}
 use Rattle.opening.specs.Opening.{settings_allowed, stage_verdict, stage_kind_of}
-use Rattle.pipeline.specs.Opening.{Stages, opened, refused, asked, front, next_kind, open_records, open_stages, unused_stage, chain_of, opened_of, open_call}
+use Rattle.pipeline.specs.Opening.{Stages, opened, refused, asked, front, next_kind, open_records, open_stages, unused_stage, chain_of, open_call}
 use Rattle.pipeline.proofs.laws.Opening.{stage_fits}
 use Rattle.pipeline.specs.declared.Pipeline.{Pipeline}
 use Rattle.pipeline.proofs.laws.RoundTrip.{opened_few, opened_from}

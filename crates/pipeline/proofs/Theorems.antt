@@ -20,7 +20,7 @@ use Rattle.pipeline.specs.Opening.{Stages, asked, open_stages, chain_of, opened_
 use Rattle.pipeline.proofs.laws.Opening.{open_none}
 use Rattle.writing.specs.WritingBack.{recipe_of}
 use Rattle.pipeline.proofs.RecipeKept.{recipe_kept}
-use Rattle.pipeline.proofs.laws.RoundTrip.{opened_few, whole_records, opened_recipe, open_without_notes, recipe_of_kinds, opened_stages, opened_from, count_is, format_is}
+use Rattle.pipeline.proofs.laws.RoundTrip.{opened_few, whole_records, open_without_notes, recipe_of_kinds, opened_from, count_is, format_is}
 
 pub reset_stages : (c : Pipeline) → c.count ≤ 8 → stages_of (reset_call c) ≡ map stage_clear (stages_of c)
 unfolding reset_call

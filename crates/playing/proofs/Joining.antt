@@ -1,5 +1,5 @@
 -- A call's output joined on to what is gathered. Assumes nothing.
-use Rattle.std.specs.Prelude.{Ok, Err, Result}
+use Rattle.std.specs.Prelude.{Ok, Err}
 use Rattle.pcm.specs.Refusals.{Verdict}
 use mathlib.Core.Path.{◌≡◌, refl, sym, ap, ◌∙◌}
 use mathlib.Core.Bool.{Bool, true, false, cond}

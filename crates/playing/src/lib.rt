@@ -92,7 +92,13 @@ fn silent(verdict: Result<(), Error>) -> Piece
 }
 
 // A call's output behind the first n bytes of out. Where it was refused its number, and where its output passes what out holds 10.
-fn join<'a>(piece: Piece, a: &'a [u8], b: &'a [u8], n: usize, out: &mut [u8]) -> Result<usize, Error>
+fn join<'a>(
+    piece: Piece,
+    a: &'a [u8],
+    b: &'a [u8],
+    n: usize,
+    out: &mut [u8],
+) -> Result<usize, Error>
     requires { n ≤ length out.old }
     ensures { record { gathered = result; out = out.new } ≡ joined piece a.now b.now n out.old }
 {

@@ -8,7 +8,7 @@ ghost use Rattle.std.proofs.lemmas.List.Edits.{sets};
 ghost use Rattle.recipe.specs.Records.{of_stage, of_note, known, field_count, length_verdict, record_verdict, record_of, entry_at, read_record, record_bytes, kind_number, fields_of};
 
 use biquad::CoefficientBits;
-use pcm::{Error};
+use pcm::Error;
 
 // A stage's fields as its record's bytes give them.
 #[derive(Clone, Copy)]

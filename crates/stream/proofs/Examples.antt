@@ -1,6 +1,6 @@
 -- Document 01's example (f) by calls on the chain of its recipe's bytes, with a refused block, a reset and finishes among them. Assumes nothing.
-use Rattle.std.specs.Prelude.{◌≡◌, refl, List, [], ◌∷◌, ◌++◌, map, ℕ, pos, Ok, Result, Err}
-use Rattle.std.proofs.Common.{ap, ◌∙◌}
+use Rattle.std.specs.Prelude.{◌≡◌, refl, List, [], ◌∷◌, ◌++◌, map, ℕ, pos, Ok, Err}
+use Rattle.std.proofs.Common.{◌∙◌}
 use Rattle.pcm.specs.declared.PcmFormat.{PcmFormat}
 use Rattle.pcm.specs.declared.Error.TheVariants.{BufferTooSmall, InvalidGeometry, TooLong}
 use Rattle.pcm.specs.Formats.{rate_allowed, channels_allowed, format_allowed}

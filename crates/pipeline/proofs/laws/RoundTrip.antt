@@ -1,7 +1,7 @@
 -- A recipe that opens is written back without its notes, stage by stage. Assumes nothing.
 use Rattle.pcm.specs.Refusals.{Verdict}
 use Rattle.std.specs.Prelude.{◌≡◌, refl, Bool, true, false, List, [], ◌∷◌, ◌++◌, map, ℕ, ◌-◌, ◌≤◌, ◌<◌, ◌⊎◌, length, replicate, Ok, Err}
-use Rattle.std.proofs.Common.{sym, ap, ap₂, ◌∙◌, inl, inr, ⊎_elim, arith, length-append, take_at}
+use Rattle.std.proofs.Common.{ap, ap₂, ◌∙◌, inl, inr, ⊎_elim, arith, length-append, take_at}
 use Rattle.pcm.specs.declared.PcmFormat.{PcmFormat}
 use Rattle.pcm.specs.Formats.{format_allowed}
 use Rattle.pcm.specs.Samples.{All, Bytes}

@@ -1,13 +1,12 @@
 -- `pipeline::Pipeline::open` meets its contract: each step by the laws of what the records so far have opened. Assumes nothing.
-use Rattle.std.proofs.Common.{rules, arith, ◌≡◌, sym, ap, ◌∙◌, List, ℕ, ◌+◌, ◌-◌, ◌≤◌, ◌<◌, ◌^◌, length, take, drop, true, Ok, Err}
+use Rattle.std.proofs.Common.{rules, arith, ◌≡◌, sym, ap, ◌∙◌, List, ℕ, ◌+◌, ◌-◌, ◌≤◌, length, take, drop, Ok}
 use Rattle.std.proofs.Math.ListN.{length-drop}
 use Rattle.std.proofs.Math.Seq.{take_all}
 use Rattle.recipe.specs.declared.Entry.TheVariants as entered
 use Rattle.recipe.specs.laws.Records.{record_four}
-use Rattle.pcm.specs.Formats.{format_allowed}
 use Rattle.opening.specs.Opening.{stage_answer}
 use Rattle.recipe.specs.Records.{read_record}
-use Rattle.pipeline.proofs.Opens.{Opens, opens_start, opens_end, opens_short, note_within, opens_note, opens_size, opens_unfit, opens_room, opens_next, call_format, call_refused, call_opened, chain_is}
+use Rattle.pipeline.proofs.Opens.{opens_start, opens_end, opens_short, note_within, opens_note, opens_size, opens_unfit, opens_room, opens_next, call_format, call_refused, call_opened, chain_is}
 use Rattle.pipeline.proofs.Pipeline.open.Goals as goal
 
 rest : (bytes : List ℕ) (at : ℕ) → read_record (take (length bytes - at) (drop at bytes)) ≡ read_record (drop at bytes)
@@ -52,7 +51,7 @@ stage_of-requires c = c.loop-at.invariant.rate
 pub returns-in_err-kind-in-Stage : goal.returns-in_err-kind-in-Stage
 returns-in_err-kind-in-Stage c =
     let r : read_record (drop c.loop-at.at c.args.recipe.now) ≡ Ok (entered.Stage c.in-Stage.record) =
-        sym (rest c.args.recipe.now c.loop-at.at) ∙ (sym c.read.ensures ∙ c.in_ok-length.was) ∙ ap Ok c.in-Stage.is in
+    sym (rest c.args.recipe.now c.loop-at.at) ∙ (sym c.read.ensures ∙ c.in_ok-length.was) ∙ ap Ok c.in-Stage.is in
     let e = opens_unfit c.loop-at.invariant c.loop-at-test.true r (sym c.stage_of.ensures ∙ c.in_err-kind-in-Stage.was) in
     let q = call_refused c.args.format c.args.recipe.now (sym c.allowed.ensures ∙ c.if-not-allowed.false) e in
     rw q (search rules)
@@ -71,7 +70,7 @@ module _ (c : goal.After-size-at) where
 pub bounds-stages-count : goal.bounds-stages-count
 bounds-stages-count c =
     let r : read_record (drop c.loop-at.at c.args.recipe.now) ≡ Ok (entered.Stage c.in-Stage.record) =
-        sym (rest c.args.recipe.now c.loop-at.at) ∙ (sym c.read.ensures ∙ c.in_ok-length.was) ∙ ap Ok c.in-Stage.is in
+    sym (rest c.args.recipe.now c.loop-at.at) ∙ (sym c.read.ensures ∙ c.in_ok-length.was) ∙ ap Ok c.in-Stage.is in
     opens_room c.loop-at.invariant c.loop-at-test.true r (sym c.stage_of.ensures ∙ c.in_ok-kind-in-Stage.was)
 
 pub overflow_add-at-in-Stage : goal.overflow_add-at-in-Stage
