@@ -12,6 +12,7 @@ use std::rt::Files;
 use std::{io, str};
 
 // Reads until buf is full or the file ends, and gives how many bytes stand at its front.
+// Kept: a `while`, since a read says how far it went; `read_exact` does not say how much a shorter file had.
 pub fn fill<F: Read>(file: &mut F, buf: &mut [u8]) -> io::Result<usize>
     ensures bound { ReadsAtMost result buf.new }
     ensures bytes { IfOk result (λ n. Consumes (F.remaining file.old) (F.remaining file.new) (take n buf.new)) }

@@ -56,6 +56,7 @@ fn finish_question(chain: Pipeline, shorter: usize) -> Result<(), Error>
 }
 
 // Stage i + 1 reads the n bytes that the stage before wrote, if any, and writes to half a where i is even, else to b.
+// Kept beside the turn of a block: no block is lent here, and the first stage reads the front of a half that is lent with it.
 fn turn(format: PcmFormat, s: Stage, i: usize, n: usize, a: &mut [u8], b: &mut [u8]) -> EndApplied
     requires { (n ≤ length a.old) × ((n ≤ length b.old) × ServedToEnd format s (source_for i n (halves a.old b.old)) (target_at i (halves a.old b.old))) }
     ensures { EndTurn format s (frames_of format.channels (source_for i n (halves a.old b.old))) i result.len result.clipped (halves a.old b.old) (halves a.new b.new) }

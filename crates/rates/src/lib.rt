@@ -48,6 +48,7 @@ fn remainder(a: u32, b: u32) -> u32
 }
 
 // The greatest common divisor. The search stops at a remainder of 1 or 0, and before any where y is 1.
+// Kept: a loop that counts nothing; no range or iterator has its steps.
 #[tactic(auto, using(crate::proofs::Rates::search_steps))]
 fn gcd(x: u32, y: u32) -> u32
     requires { (0 < x) × (0 < y) }

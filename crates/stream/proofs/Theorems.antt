@@ -125,13 +125,16 @@ blocks_counted f recipe o h calls lent =
     counted_calls o w (running []) (fresh o) calls 0 (begun o w.places) lent (open_counters f recipe o h).0
     ∙ ap held_count (zero-add (accepted_blocks o calls))
 
--- `empty_blocks` grows with each block that answers 'nothing yet'
-pub empty_blocks_counted : (f : PcmFormat) (recipe : List ℕ) (o : Pipeline) → open_call f recipe ≡ Ok o → (calls : List Call)
+-- `empty_blocks` grows with each block that answers 'nothing yet': of any chain that has counted none, as of one that opening answered
+pub empty_blocks_counted : (o : Pipeline) → o.empty_blocks ≡ 0 → (calls : List Call)
     → (run_of o calls).chain.empty_blocks ≡ held_count (nothing_from (fresh o) calls)
 unfolding held_count
-empty_blocks_counted f recipe o h calls =
+empty_blocks_counted o none calls =
     let r : Run = fresh o in
-    nothing_calls o (running []) r r calls 0 refl (open_counters f recipe o h).1 ∙ ap held_count (zero-add (nothing_from r calls))
+    nothing_calls o (running []) r r calls 0 refl none ∙ ap held_count (zero-add (nothing_from r calls))
+
+pub opened_empty : (f : PcmFormat) (recipe : List ℕ) (o : Pipeline) → open_call f recipe ≡ Ok o → o.empty_blocks ≡ 0
+opened_empty f recipe o h = (open_counters f recipe o h).1
 
 -- ---- the stage with i stages before it delivers what its definition makes of what it has received
 module _ (i : ℕ) (ks : List StageKind) (k : StageKind) (rest : List StageKind) (X : List Frame) (e : drop i ks ≡ k ∷ rest) where
