@@ -21,6 +21,7 @@ fn up_to(step: u64, p: u64, d: u64) -> usize
 }
 
 // How many frames a resampler makes of so many and at its end, from the phase alone: exact, at equal rates also.
+#[tactic(auto, unfolding(crate::specs::ResamplerEnd::end_frame_count, crate::specs::ResamplerEnd::end_count))]
 fn resampled_to_end(r: LinearResampler, primed: bool, phase: u64, frames: usize) -> usize
     requires { (0 < r.in_r) × (frames * r.out_r + r.in_r < 2 ^ 64) }
     ensures { result ≡ end_frame_count r primed phase frames }
