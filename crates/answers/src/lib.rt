@@ -179,33 +179,24 @@ impl FinishAnswer {
 pub fn count_up(n: u64) -> u64
     ensures { result ≡ counted_up n }
 {
-    if n == 18446744073709551615 {
-        return n;
-    }
-    n + 1
+    n.saturating_add(1)
 }
 
 // One more 'nothing yet', where no bytes came out.
 pub fn count_empty(n: u64, len: usize) -> u64
     ensures { result ≡ counted_if len n }
 {
-    if len == 0 {
-        return count_up(n);
-    }
-    n
+    if len == 0 { count_up(n) } else { n }
 }
 
 // The half that the last of `count` stages writes to.
 fn last_half(count: usize) -> Half
     ensures { result ≡ last_half count }
 {
-    if count == 0 {
-        return Half::A;
-    }
-    if (count - 1) % 2 == 0 {
-        Half::A
-    } else {
+    if count > 0 && count % 2 == 0 {
         Half::B
+    } else {
+        Half::A
     }
 }
 
@@ -251,7 +242,7 @@ pub fn finish_answered(format: PcmFormat, count: usize, len: usize, clipped: usi
 pub fn shorter_of(a: usize, b: usize) -> usize
     ensures { result ≡ shorter_of a b }
 {
-    if a <= b { a } else { b }
+    a.min(b)
 }
 
 // No stages: the block is copied to a.
@@ -286,5 +277,5 @@ pub fn output<'a>(a: &'a [u8], b: &'a [u8], half: Half, len: usize) -> &'a [u8]
 pub fn front<'a>(s: &'a [u8], len: usize) -> &'a [u8]
     ensures { result.now ≡ front_of len s.now }
 {
-    if len <= s.len() { &s[..len] } else { &s[..0] }
+    s.get(..len).unwrap_or(&[])
 }
