@@ -44,7 +44,7 @@ pub enum Answer {
 // Number and values of an answer. Outcome: 0 refused, 1 sound, 2 nothing yet; what follows it is zero but for sound, and `clipped` but for
 // a refusal.
 #[repr(C)]
-#[derive(Clone, Copy)]
+#[derive(Clone, Copy, Default)]
 pub struct Told {
     pub number: u16,
     pub outcome: u8,
@@ -65,12 +65,8 @@ fn silent(number: u16, needed: usize, outcome: u8, clipped: usize) -> Told
         number,
         needed,
         outcome,
-        rate: 0,
-        channels: 0,
-        timestamp: 0,
-        half: 0,
-        len: 0,
         clipped,
+        ..Told::default()
     }
 }
 
@@ -120,7 +116,7 @@ pub enum FinishAnswer {
 
 // Number and values of it, as of a block.
 #[repr(C)]
-#[derive(Clone, Copy)]
+#[derive(Clone, Copy, Default)]
 pub struct FinishTold {
     pub number: u16,
     pub outcome: u8,
@@ -140,11 +136,8 @@ fn silent_finish(number: u16, needed: usize, outcome: u8, clipped: usize) -> Fin
         number,
         needed,
         outcome,
-        rate: 0,
-        channels: 0,
-        half: 0,
-        len: 0,
         clipped,
+        ..FinishTold::default()
     }
 }
 
