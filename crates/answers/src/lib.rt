@@ -206,11 +206,10 @@ pub fn answered(
     if len == 0 {
         return Answer::NothingYet { clipped };
     }
-    let half = last_half(count);
     Answer::Output {
         format,
         timestamp,
-        half,
+        half: last_half(count),
         len,
         clipped,
     }
@@ -223,10 +222,9 @@ pub fn finish_answered(format: PcmFormat, count: usize, len: usize, clipped: usi
     if len == 0 {
         return FinishAnswer::NothingYet { clipped };
     }
-    let half = last_half(count);
     FinishAnswer::Output {
         format,
-        half,
+        half: last_half(count),
         len,
         clipped,
     }

@@ -92,8 +92,12 @@ fn conclude(chain: Pipeline, done: EndApplied) -> Finished
     requires { legal chain ≡ true }
     ensures { result ≡ ended_as chain done }
 {
-    let format = chain.output_format();
-    let answer = answers::finish_answered(format, chain.count, done.len, done.clipped);
+    let answer = answers::finish_answered(
+        chain.output_format(),
+        chain.count,
+        done.len,
+        done.clipped,
+    );
     let cleared = chain.reset();
     Finished {
         chain: cleared,
@@ -120,8 +124,7 @@ pub fn finish(chain: Pipeline, a: &mut [u8], b: &mut [u8]) -> Finished
     ensures told { finish_told result.answer ≡ finish_call_told chain a.old b.old }
 {
     let shorter = answers::shorter_of(a.len(), b.len());
-    let asked = finish_question(chain, shorter);
-    match asked {
+    match finish_question(chain, shorter) {
         Err(e) => Finished {
             chain,
             answer: FinishAnswer::Refused(e),

@@ -75,8 +75,7 @@ fn stage_due(question: Question, s: Stage, frames: usize) -> Due
     requires { (frames ≤ 2400000000000) × Bounded s.kind }
     ensures { result ≡ due_of question s frames }
 {
-    let kind = s.kind;
-    let wanted = stage::frames_wanted(kind, frames);
+    let wanted = stage::frames_wanted(s.kind, frames);
     match question {
         Question::Block => {
             if frames == 0 {
@@ -121,9 +120,7 @@ fn onward(walk: Walk, s: Stage, question: Question, shorter: usize) -> Walk
     requires { WalkFits walk × Bounded s.kind }
     ensures { result ≡ further question shorter walk s }
 {
-    let reaching = walk.format;
-    let kind = s.kind;
-    let format = stage::format_after(reaching, kind);
+    let format = stage::format_after(walk.format, s.kind);
     let d = stage_due(question, s, walk.frames);
     let room = d.wanted * format.frame_bytes();
     Walk {
