@@ -44,7 +44,7 @@ pub enum Answer {
 // Number and values of an answer. Outcome: 0 refused, 1 sound, 2 nothing yet; what follows it is zero but for sound, and `clipped` but for
 // a refusal.
 #[repr(C)]
-#[derive(Clone, Copy)]
+#[derive(Clone, Copy, Default)]
 pub struct Told {
     pub number: u16,
     pub outcome: u8,
@@ -65,12 +65,8 @@ fn silent(number: u16, needed: usize, outcome: u8, clipped: usize) -> Told
         number,
         needed,
         outcome,
-        rate: 0,
-        channels: 0,
-        timestamp: 0,
-        half: 0,
-        len: 0,
         clipped,
+        ..Told::default()
     }
 }
 
@@ -120,7 +116,7 @@ pub enum FinishAnswer {
 
 // Number and values of it, as of a block.
 #[repr(C)]
-#[derive(Clone, Copy)]
+#[derive(Clone, Copy, Default)]
 pub struct FinishTold {
     pub number: u16,
     pub outcome: u8,
@@ -140,11 +136,8 @@ fn silent_finish(number: u16, needed: usize, outcome: u8, clipped: usize) -> Fin
         number,
         needed,
         outcome,
-        rate: 0,
-        channels: 0,
-        half: 0,
-        len: 0,
         clipped,
+        ..FinishTold::default()
     }
 }
 
@@ -179,33 +172,24 @@ impl FinishAnswer {
 pub fn count_up(n: u64) -> u64
     ensures { result ≡ counted_up n }
 {
-    if n == 18446744073709551615 {
-        return n;
-    }
-    n + 1
+    n.saturating_add(1)
 }
 
 // One more 'nothing yet', where no bytes came out.
 pub fn count_empty(n: u64, len: usize) -> u64
     ensures { result ≡ counted_if len n }
 {
-    if len == 0 {
-        return count_up(n);
-    }
-    n
+    if len == 0 { count_up(n) } else { n }
 }
 
 // The half that the last of `count` stages writes to.
 fn last_half(count: usize) -> Half
     ensures { result ≡ last_half count }
 {
-    if count == 0 {
-        return Half::A;
-    }
-    if (count - 1) % 2 == 0 {
-        Half::A
-    } else {
+    if count > 0 && count % 2 == 0 {
         Half::B
+    } else {
+        Half::A
     }
 }
 
@@ -222,11 +206,10 @@ pub fn answered(
     if len == 0 {
         return Answer::NothingYet { clipped };
     }
-    let half = last_half(count);
     Answer::Output {
         format,
         timestamp,
-        half,
+        half: last_half(count),
         len,
         clipped,
     }
@@ -239,10 +222,9 @@ pub fn finish_answered(format: PcmFormat, count: usize, len: usize, clipped: usi
     if len == 0 {
         return FinishAnswer::NothingYet { clipped };
     }
-    let half = last_half(count);
     FinishAnswer::Output {
         format,
-        half,
+        half: last_half(count),
         len,
         clipped,
     }
@@ -251,7 +233,7 @@ pub fn finish_answered(format: PcmFormat, count: usize, len: usize, clipped: usi
 pub fn shorter_of(a: usize, b: usize) -> usize
     ensures { result ≡ shorter_of a b }
 {
-    if a <= b { a } else { b }
+    a.min(b)
 }
 
 // No stages: the block is copied to a.
@@ -286,5 +268,5 @@ pub fn output<'a>(a: &'a [u8], b: &'a [u8], half: Half, len: usize) -> &'a [u8]
 pub fn front<'a>(s: &'a [u8], len: usize) -> &'a [u8]
     ensures { result.now ≡ front_of len s.now }
 {
-    if len <= s.len() { &s[..len] } else { &s[..0] }
+    s.get(..len).unwrap_or(&[])
 }

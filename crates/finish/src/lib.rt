@@ -26,6 +26,7 @@ pub struct Finished {
 }
 
 // After the walk: is every stage legal, and does the shorter half hold each one's bytes in this call?
+#[tactic(auto, unfolding(crate::specs::Turns::end_from))]
 pub fn verdict(walk: Walk) -> Result<(), Error>
     requires { walk.short ≤ 3688000000000000000 }
     ensures { result ≡ end_from walk }
@@ -42,6 +43,7 @@ pub fn verdict(walk: Walk) -> Result<(), Error>
 }
 
 // The questions of a finish, in their order, by the walk that asks a block's: nothing arrives at the first stage.
+#[tactic(auto, using(crate::specs::laws::Stepping::head_refused, crate::specs::laws::Stepping::end_is, block::specs::laws::Asking::head_parts))]
 fn finish_question(chain: Pipeline, shorter: usize) -> Result<(), Error>
     ensures { result ≡ finish_verdict chain shorter }
 {
@@ -86,12 +88,17 @@ fn end_stages(chain: Pipeline, a: &mut [u8], b: &mut [u8]) -> EndApplied
 }
 
 // The chain cleared as by reset, and the answer.
+#[tactic(auto, unfolding(crate::specs::Turns::ended_as), using(crate::proofs::Telling::leaving_is))]
 fn conclude(chain: Pipeline, done: EndApplied) -> Finished
     requires { legal chain ≡ true }
     ensures { result ≡ ended_as chain done }
 {
-    let format = chain.output_format();
-    let answer = answers::finish_answered(format, chain.count, done.len, done.clipped);
+    let answer = answers::finish_answered(
+        chain.output_format(),
+        chain.count,
+        done.len,
+        done.clipped,
+    );
     let cleared = chain.reset();
     Finished {
         chain: cleared,
@@ -100,6 +107,7 @@ fn conclude(chain: Pipeline, done: EndApplied) -> Finished
 }
 
 // A finish whose questions were all answered yes.
+#[tactic(auto, unfolding(crate::specs::Turns::ended_as, crate::specs::FinishCall::finished))]
 pub fn play(chain: Pipeline, a: &mut [u8], b: &mut [u8]) -> Finished
     requires { Finishes chain a.old b.old }
     ensures { record { chain = result.chain; answer = result.answer; a = a.new; b = b.new } ≡ finished chain (halves a.old b.old) }
@@ -111,13 +119,13 @@ pub fn play(chain: Pipeline, a: &mut [u8], b: &mut [u8]) -> Finished
 // The finish call: the chain afterwards and the answer. The output, where there is one, stands at the front of the half named.
 // A stage can deliver more here than of any block before, so halves of which `scratch_bytes` says that they suffice for a block need not
 // suffice for a finish: 1,000 to 1 Hz, 1 to 1,000 Hz and 1,000 to 4,000 Hz after 1,001 frames.
+#[tactic(auto, unfolding(crate::specs::FinishCall::finish_call, crate::specs::FinishCall::finish_verdict), using(pcm::specs::laws::Refusals::ask_yes))]
 pub fn finish(chain: Pipeline, a: &mut [u8], b: &mut [u8]) -> Finished
     ensures all { record { chain = result.chain; answer = result.answer; a = a.new; b = b.new } ≡ finish_call chain a.old b.old }
     ensures told { finish_told result.answer ≡ finish_call_told chain a.old b.old }
 {
     let shorter = answers::shorter_of(a.len(), b.len());
-    let asked = finish_question(chain, shorter);
-    match asked {
+    match finish_question(chain, shorter) {
         Err(e) => Finished {
             chain,
             answer: FinishAnswer::Refused(e),

@@ -3,7 +3,7 @@
 
 ghost use Rattle.std.specs.Prelude.{◌≡◌, ◌≤◌, ◌<◌};
 ghost use Rattle.stage.specs.Rooms.{Bounded};
-ghost use Rattle.questions.specs.Walk.{same_format, larger, head_legal, size_verdict, block_frames, due_of, first_short, further, stepped, begun, copy_room, WalkFits, sized_from, verdict_from};
+ghost use Rattle.questions.specs.Walk.{head_legal, size_verdict, block_frames, due_of, first_short, further, stepped, begun, copy_room, WalkFits, sized_from, verdict_from};
 
 use pcm::{Error, PcmFormat};
 use stage::Stage;
@@ -38,19 +38,7 @@ pub struct Walk {
 pub fn head_legal(format: PcmFormat, count: usize) -> bool
     ensures { result ≡ head_legal format count }
 {
-    if count > 8 {
-        return false;
-    }
-    format.allowed()
-}
-
-fn same_format(f: PcmFormat, g: PcmFormat) -> bool
-    ensures { result ≡ same_format f g }
-{
-    if f.rate == g.rate {
-        return f.channels == g.channels;
-    }
-    false
+    count <= 8 && format.allowed()
 }
 
 // The questions of a block's size, in their order.
@@ -60,10 +48,7 @@ fn size_question(format: PcmFormat, size: usize) -> Result<(), Error>
     ensures { result ≡ size_verdict format size }
 {
     let frame = format.frame_bytes();
-    if size == 0 {
-        return Err(Error::InvalidGeometry);
-    }
-    if size % frame != 0 {
+    if size == 0 || size % frame != 0 {
         return Err(Error::InvalidGeometry);
     }
     if size / frame > pcm::MAX_FRAMES {
@@ -90,8 +75,7 @@ fn stage_due(question: Question, s: Stage, frames: usize) -> Due
     requires { (frames ≤ 2400000000000) × Bounded s.kind }
     ensures { result ≡ due_of question s frames }
 {
-    let kind = s.kind;
-    let wanted = stage::frames_wanted(kind, frames);
+    let wanted = stage::frames_wanted(s.kind, frames);
     match question {
         Question::Block => {
             if frames == 0 {
@@ -130,42 +114,33 @@ fn first_short(short: usize, room: usize, shorter: usize) -> usize
     if room <= shorter { 0 } else { room }
 }
 
-#[tactic(auto, unfolding(crate::specs::Walk::larger))]
-fn larger_of(a: usize, b: usize) -> usize
-    ensures { result ≡ larger a b }
-{
-    if a <= b { b } else { a }
-}
-
 // One stage further, past a stage that suits.
+#[tactic(auto, unfolding(crate::specs::Walk::further, crate::specs::Walk::room_of, crate::specs::Walk::larger), using(crate::specs::laws::Walking::room_fits))]
 fn onward(walk: Walk, s: Stage, question: Question, shorter: usize) -> Walk
     requires { WalkFits walk × Bounded s.kind }
     ensures { result ≡ further question shorter walk s }
 {
-    let reaching = walk.format;
-    let kind = s.kind;
-    let format = stage::format_after(reaching, kind);
+    let format = stage::format_after(walk.format, s.kind);
     let d = stage_due(question, s, walk.frames);
     let room = d.wanted * format.frame_bytes();
     Walk {
         legal: true,
         format,
         frames: d.delivered,
-        largest: larger_of(walk.largest, room),
+        largest: walk.largest.max(room),
         short: first_short(walk.short, room, shorter),
     }
 }
 
 // One stage further: does it suit the format that reaches it, and what will it want and deliver?
+#[tactic(auto, unfolding(crate::specs::Walk::stepped, crate::specs::Walk::illegal), using(stage::specs::laws::Rooms::suits_bounded))]
 pub fn asked(walk: Walk, s: Stage, question: Question, shorter: usize) -> Walk
     requires { WalkFits walk }
     ensures { result ≡ stepped question shorter walk s }
 {
     let format = walk.format;
-    if walk.legal {
-        if stage::stage_suits(format, s) {
-            return onward(walk, s, question, shorter);
-        }
+    if walk.legal && stage::stage_suits(format, s) {
+        return onward(walk, s, question, shorter);
     }
     Walk {
         legal: false,
@@ -220,7 +195,7 @@ pub fn verdict(own: PcmFormat, format: PcmFormat, size: usize, walk: Walk) -> Re
     ensures { result ≡ verdict_from own format size walk }
 {
     sized(own, size, walk)?;
-    if !same_format(own, format) {
+    if own != format {
         return Err(Error::Unsupported);
     }
     if walk.short != 0 {

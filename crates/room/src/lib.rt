@@ -53,13 +53,11 @@ impl From<Result<Room, Error>> for RoomTold {
 fn asked_frames(frames: usize) -> usize
     ensures { result ≡ asked_frames frames }
 {
-    if frames <= pcm::MAX_FRAMES {
-        return frames;
-    }
-    pcm::MAX_FRAMES + 1
+    frames.min(pcm::MAX_FRAMES + 1)
 }
 
 // The bytes of a block of so many frames, as its questions are asked.
+#[tactic(auto, using(crate::specs::laws::Asked::asked_most))]
 pub fn asked_bytes(format: PcmFormat, frames: usize) -> usize
     requires { format.channels ≤ 2 }
     ensures { result ≡ asked_bytes format frames }
@@ -97,6 +95,7 @@ pub fn of_finish(walk: Walk) -> Result<Room, Error>
 }
 
 // What the walk that asks finds of a call in which `size` bytes arrive.
+#[tactic(auto, unfolding(crate::specs::Room::found), using(block::specs::laws::Asking::head_parts))]
 fn walked(chain: Pipeline, question: Question, size: usize) -> Walk
     requires { head_legal chain.format chain.count ≡ true }
     ensures { result ≡ found question chain size }
@@ -106,6 +105,7 @@ fn walked(chain: Pipeline, question: Question, size: usize) -> Walk
 }
 
 // What a block of so many frames will bring, whatever its bytes.
+#[tactic(auto, using(crate::proofs::Telling::block_told_lem, crate::specs::laws::Asked::block_room_is, crate::specs::laws::Asked::block_room_refused, block::specs::laws::Walking::head_illegal, block::specs::laws::Asking::head_parts))]
 pub fn block_room(chain: Pipeline, frames: usize) -> Result<Room, Error>
     ensures all { result ≡ block_room chain frames }
     ensures told { room_told result ≡ block_room_told chain frames }
@@ -119,6 +119,7 @@ pub fn block_room(chain: Pipeline, frames: usize) -> Result<Room, Error>
 }
 
 // What a finish will bring.
+#[tactic(auto, using(crate::proofs::Telling::finish_told_lem, crate::specs::laws::Asked::finish_room_is, crate::specs::laws::Asked::finish_room_refused, block::specs::laws::Walking::head_illegal))]
 pub fn finish_room(chain: Pipeline) -> Result<Room, Error>
     ensures all { result ≡ finish_room chain }
     ensures told { room_told result ≡ finish_room_told chain }
