@@ -94,13 +94,9 @@ pub fn walked(chain: Pipeline, question: Question, shorter: usize, start: Walk) 
     requires { Asks question shorter start.format.rate chain.stages chain.count start start 0 }
     ensures { Walked result (walked question shorter start (stages_of chain)) }
 {
-    let count = chain.count;
     let mut walk = start;
-    let mut i: usize = 0;
-    while i < count {
-        let s = chain.stages[i];
-        walk = questions::asked(walk, s, question, shorter);
-        i += 1;
+    for s in &chain.stages[..chain.count] {
+        walk = questions::asked(walk, *s, question, shorter);
     }
     walk
 }

@@ -35,12 +35,10 @@ pub fn walked(words: &[u32], count: usize, question: Question, shorter: usize, s
     ensures { Walked result (walked question shorter start (take count (chain_at words.now).stages)) }
 {
     let mut walk = start;
-    let mut i: usize = 0;
-    while i < count {
+    for i in 0..count {
         let kind = chain_words::kind_at(words, i);
         let memory = chain_words::memory_at(words, i);
         walk = questions::asked(walk, Stage { kind, memory }, question, shorter);
-        i += 1;
     }
     walk
 }
