@@ -1,5 +1,5 @@
 -- `word_block::scratch_bytes` meets its contract. Assumes nothing.
-use Rattle.std.proofs.Common.{rules, ◌≡◌, sym, ap, ◌∙◌, ◌*◌, true, Ok, Err}
+use Rattle.std.proofs.Common.{rules, ◌≡◌, sym, ap, ◌∙◌, ◌*◌, true, Err}
 use Rattle.pcm.specs.Refusals.{Verdict}
 use Rattle.questions.specs.Walk.{head_legal}
 use Rattle.block.specs.BlockCall.{scratch_answer, scratch_bytes}
@@ -38,8 +38,8 @@ sized-requires c = (head_parts _ _ (head_at _ (sym c.legal_head.ensures ∙ c.if
 pub returns-in_err-sized : goal.returns-in_err-sized
 returns-in_err-sized c =
     let e : Err c.in_err-sized.field-0.0 ≡ scratch_bytes (chain_of_words c.args.words.now) c.args.size =
-        ap (λ (x : Verdict). scratch_answer x (2 * c.walked-walk.result.largest)) (sym c.in_err-sized.was)
-        ∙ scratch_at _ (sym c.legal_head.ensures ∙ c.if-not-legal_head.false) _ _ c.count_of-count.ensures c.format_of-own.ensures _ _ _ _ c.begun-start.ensures c.walked-walk.ensures.is c.sized.ensures in
+    ap (λ (x : Verdict). scratch_answer x (2 * c.walked-walk.result.largest)) (sym c.in_err-sized.was)
+    ∙ scratch_at _ (sym c.legal_head.ensures ∙ c.if-not-legal_head.false) _ _ c.count_of-count.ensures c.format_of-own.ensures _ _ _ _ c.begun-start.ensures c.walked-walk.ensures.is c.sized.ensures in
     rw (sym e) (search rules)
 
 pub returns : goal.returns
