@@ -10,7 +10,7 @@ ghost use Rattle.chain_words.specs.Layout.{chain_of_words};
 ghost use Rattle.word_finish.specs.Words.{sound_words, reset_outcome, finish_outcome, finish_words};
 
 use answers::{FinishAnswer, FinishTold};
-use pcm::{Error};
+use pcm::Error;
 use questions::Question;
 
 // The sound memory cleared, the counters left alone. Words that stand for no chain are 1, and stay.
