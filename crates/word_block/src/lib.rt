@@ -79,8 +79,7 @@ fn play(words: &mut [u32], timestamp: u64, sound: &[u8], a: &mut [u8], b: &mut [
     let mut reaching = own;
     let mut len = sound.len();
     let mut clipped: usize = 0;
-    let mut i: usize = 0;
-    while i < count {
+    for i in 0..count {
         let kind = chain_words::kind_at(words, i);
         let held = chain_words::memory_at(words, i);
         let s = Stage { kind, memory: held };
@@ -90,7 +89,9 @@ fn play(words: &mut [u32], timestamp: u64, sound: &[u8], a: &mut [u8], b: &mut [
         len = t.len;
         clipped += t.clipped;
         reaching = stage::format_after(reaching, kind);
-        i = answers::next_stage(i, count, len);
+        if len == 0 {
+            break;
+        }
     }
     count_block(words, len);
     answers::answered(reaching, timestamp, count, len, clipped)
