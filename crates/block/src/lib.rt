@@ -53,11 +53,8 @@ pub fn process(
     let size = block.len();
     let shorter = answers::shorter_of(a.len(), b.len());
     let mut walk = questions::begun(own, count, size, shorter);
-    let mut i: usize = 0;
-    while i < count {
-        let s = chain.stages[i];
-        walk = questions::asked(walk, s, Question::Block, shorter);
-        i += 1;
+    for s in &chain.stages[..count] {
+        walk = questions::asked(walk, *s, Question::Block, shorter);
     }
     let verdict = questions::verdict(own, format, size, walk);
     if let Err(e) = verdict {
@@ -67,8 +64,7 @@ pub fn process(
     let mut reaching = own;
     let mut len = size;
     let mut clipped: usize = 0;
-    i = 0;
-    while i < count {
+    for i in 0..count {
         let s = chain.stages[i];
         let kind = s.kind;
         let t = turns::turn(reaching, s, i, len, block, a, b);
@@ -79,7 +75,9 @@ pub fn process(
         len = t.len;
         clipped += t.clipped;
         reaching = stage::format_after(reaching, kind);
-        i = answers::next_stage(i, count, len);
+        if len == 0 {
+            break;
+        }
     }
     let blocks = answers::count_up(chain.blocks);
     chain.blocks = blocks;
@@ -94,13 +92,9 @@ pub fn walked(chain: Pipeline, question: Question, shorter: usize, start: Walk) 
     requires { Asks question shorter start.format.rate chain.stages chain.count start start 0 }
     ensures { Walked result (walked question shorter start (stages_of chain)) }
 {
-    let count = chain.count;
     let mut walk = start;
-    let mut i: usize = 0;
-    while i < count {
-        let s = chain.stages[i];
-        walk = questions::asked(walk, s, question, shorter);
-        i += 1;
+    for s in &chain.stages[..chain.count] {
+        walk = questions::asked(walk, *s, question, shorter);
     }
     walk
 }

@@ -1,5 +1,5 @@
 -- The verdict on a block and the figure of `scratch_bytes`, from the walk that asks on words. Assumes nothing.
-use Rattle.std.specs.Prelude.{Ok, Err, Result}
+use Rattle.std.specs.Prelude.{Ok, Err}
 use Rattle.pcm.specs.Refusals.{Verdict}
 use mathlib.Core.Path.{◌≡◌, sym, ap, ap₂, ◌∙◌, subst}
 use mathlib.Core.Bool.{Bool, true, false, cond}

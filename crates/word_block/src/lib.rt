@@ -18,6 +18,7 @@ use pcm::{Error, PcmFormat};
 use questions::{Question, Walk};
 use stage::Stage;
 
+#[tactic(auto, unfolding(crate::specs::Words::legal_head), using(chain_words::specs::laws::Chains::stands_long))]
 // Do the words stand for a chain whose count and format are within their limits?
 pub fn legal_head(words: &[u32]) -> bool
     ensures { result ≡ legal_head words.now }
@@ -35,12 +36,10 @@ pub fn walked(words: &[u32], count: usize, question: Question, shorter: usize, s
     ensures { Walked result (walked question shorter start (take count (chain_at words.now).stages)) }
 {
     let mut walk = start;
-    let mut i: usize = 0;
-    while i < count {
+    for i in 0..count {
         let kind = chain_words::kind_at(words, i);
         let memory = chain_words::memory_at(words, i);
         walk = questions::asked(walk, Stage { kind, memory }, question, shorter);
-        i += 1;
     }
     walk
 }
@@ -80,8 +79,7 @@ fn play(words: &mut [u32], timestamp: u64, sound: &[u8], a: &mut [u8], b: &mut [
     let mut reaching = own;
     let mut len = sound.len();
     let mut clipped: usize = 0;
-    let mut i: usize = 0;
-    while i < count {
+    for i in 0..count {
         let kind = chain_words::kind_at(words, i);
         let held = chain_words::memory_at(words, i);
         let s = Stage { kind, memory: held };
@@ -91,7 +89,9 @@ fn play(words: &mut [u32], timestamp: u64, sound: &[u8], a: &mut [u8], b: &mut [
         len = t.len;
         clipped += t.clipped;
         reaching = stage::format_after(reaching, kind);
-        i = answers::next_stage(i, count, len);
+        if len == 0 {
+            break;
+        }
     }
     count_block(words, len);
     answers::answered(reaching, timestamp, count, len, clipped)

@@ -1,5 +1,5 @@
 -- `block::scratch_bytes` meets its contract. Assumes nothing.
-use Rattle.std.proofs.Common.{rules, arith, ◌≡◌, sym, ap, ◌∙◌, ◌*◌, ℕ, length, true, Ok, Err}
+use Rattle.std.proofs.Common.{rules, ◌≡◌, sym, ap, ◌∙◌, ◌*◌, ℕ, length, true, Ok, Err}
 use Rattle.pcm.specs.declared.Error.TheVariants.{InvalidFormat}
 use Rattle.pcm.specs.Refusals.{Verdict}
 use Rattle.pcm.specs.laws.Lists.{unmapped}

@@ -1,7 +1,7 @@
 -- The walk that asks, from one stage to the next and to its end. Assumes nothing.
 use Rattle.pcm.specs.Refusals.{Verdict}
 use Rattle.std.specs.Prelude.{◌≡◌, true, List, ℕ, ◌+◌, ◌≤◌, ◌<◌, leb, ltb, length, take, drop, get_or}
-use Rattle.std.proofs.Common.{sym, ap, ◌∙◌, subst, arith, leb-true, ltb-true}
+use Rattle.std.proofs.Common.{sym, ap, ◌∙◌, subst, arith, leb-true, ltb-true, length-take-le, get_or-take}
 use Rattle.pcm.specs.declared.PcmFormat.{PcmFormat}
 use Rattle.pcm.specs.Formats.{format_allowed, rate_allowed, channels_allowed}
 use Rattle.stage.specs.declared.Stage.{Stage}
@@ -79,6 +79,13 @@ module _ (q : Question) (shorter first : ℕ) (stages : List Stage) (count : ℕ
 
   pub asks_end : count ≤ i → w ≡ walked q shorter start (take count stages)
   asks_end h = sym (p.so_far ∙ ap (walked q shorter w) (stages_end stages count i h) ∙ walked_none q shorter w)
+
+  -- the same, for a walk over the stages in use
+  pub in_use : length (take count stages) ≡ count
+  in_use = length-take-le count stages (omega (arith, p.few, p.long))
+
+  pub asks_along : i < length (take count stages) → (v : Walk) → v ≡ stepped q shorter w (get_or (take count stages) i no_stage) → Asks q shorter first stages count start v (i + 1)
+  asks_along h v e = let m : i < count = omega (arith, h, in_use) in asks_next m v (e ∙ ap (stepped q shorter w) (get_or-take count stages i no_stage m))
 
 -- the verdict of the whole walk is the definition's
 pub walk_verdict : (c : Pipeline) (format : PcmFormat) (size short : ℕ) (start w : Walk) (v : Verdict) → head_legal c.format c.count ≡ true → length c.stages ≡ 8

@@ -45,6 +45,13 @@ next_less i count len n h e = rw e (go (eqb len 0))
     go true = omega arith
     go false = omega arith
 
+-- after a stage that delivers something the next one has its turn, after any other none
+pub stage_after : (i count len : ℕ) → (len ≡ 0 → ⊥) → i + 1 ≡ next_stage i count len
+stage_after i count len h = rw (ne_eqb len 0 h)
+
+pub stage_last : (i count len : ℕ) → len ≡ 0 → count ≡ next_stage i count len
+stage_last i count len h = rw (eq-eqb len 0 h)
+
 -- a chain with other stages
 unfoldable pub with_stages : Pipeline → List Stage → Pipeline
 with_stages c stages = record { stages = stages; count = c.count; format = c.format; blocks = c.blocks; empty_blocks = c.empty_blocks }
@@ -211,6 +218,13 @@ module _ (old : Pipeline) (count : ℕ) (format : PcmFormat) (block : List ℕ) 
         where
           as_it_was : c ≡ with_stages c (set c.stages i s)
           as_it_was = ap (λ (l : List Stage). record { stages = l; count = c.count; format = c.format; blocks = c.blocks; empty_blocks = c.empty_blocks }) (sym (set-get_or c.stages i no_stage))
+
+-- past the last stage that was run
+pub record Played (old : Pipeline) (count : ℕ) (format : PcmFormat) (block : List ℕ) (before : Halves) (short : ℕ)
+    (c : Pipeline) (f : PcmFormat) (n : ℕ) (h : Halves) (clipped : ℕ) : Type 0 where
+  pub last : ℕ
+  pub plays : Plays old count format block before short c f n last h clipped
+  pub over : count ≤ last
 
 -- ---- before the first stage
 pub copy_room_lem : (c : Pipeline) (block a b : List ℕ) → c.count ≡ 0 → Accepts c block a b → length block ≤ shorter a b

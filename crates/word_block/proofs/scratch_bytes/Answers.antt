@@ -1,5 +1,5 @@
 -- `word_block::scratch_bytes` meets its contract. Assumes nothing.
-use Rattle.std.proofs.Common.{rules, ◌≡◌, sym, ap, ◌∙◌, ◌*◌, true, Ok, Err}
+use Rattle.std.proofs.Common.{rules, ◌≡◌, sym, ap, ◌∙◌, ◌*◌, true, Err}
 use Rattle.pcm.specs.Refusals.{Verdict}
 use Rattle.questions.specs.Walk.{head_legal}
 use Rattle.block.specs.BlockCall.{scratch_answer, scratch_bytes}

@@ -1,8 +1,5 @@
 -- `word_finish::reset` meets its contract. Assumes nothing.
-use borrow.Author.Rules.{rules}
-use mathlib.Core.Path.{◌≡◌, sym, ap, ◌∙◌, subst}
-use mathlib.Core.Bool.{true, false}
-use Prim.Native.Nat.{◌≤◌}
+use Rattle.std.proofs.Common.{◌≡◌, sym, ap, ◌∙◌, subst, ◌≤◌, true, false}
 use Rattle.pcm.specs.Samples.{All}
 use Rattle.pipeline.specs.declared.Pipeline.{Pipeline}
 use Rattle.pipeline.specs.Reset.{reset_call}
@@ -12,18 +9,17 @@ use Rattle.chain_words.specs.Layout.{stands, chain_of_words}
 use Rattle.chain_words.specs.laws.Chains.{stands_long, no_words}
 use Rattle.word_finish.specs.Words.{sound_words}
 use Rattle.word_finish.proofs.Stands.{no_chain_reset, reset_few, reset_stands}
-use Rattle.word_finish.proofs.reset.Statement.{statement}
-use Rattle.word_finish.proofs.reset.Tie as tie
+use Rattle.word_finish.proofs.reset.Goals as goal
 
-put-sound-requires : tie.Need-put_sound-requires
-put-sound-requires c κs =
+pub put_sound-requires : goal.put_sound-requires
+put_sound-requires c =
     let w = c.args.words.now in
     let h : stands w ≡ true = sym c.stand.ensures ∙ c.if-stand.true in
     let q : c.reset-after.result ≡ reset_call (chain_of_words w) = c.reset-after.ensures ∙ ap reset_call c.chain_of-own.ensures.0 in
     (subst (λ (x : Pipeline). x.count ≤ 8) (sym q) (reset_few w h), stands_long w h)
 
-returns : tie.Need-returns-then-stand
-returns c =
+pub returns-then-stand : goal.returns-then-stand
+returns-then-stand c =
     let w = c.args.words.now in
     let h : stands w ≡ true = sym c.stand.ensures ∙ c.if-stand.true in
     let q : c.reset-after.result ≡ reset_call (chain_of_words w) = c.reset-after.ensures ∙ ap reset_call c.chain_of-own.ensures.0 in
@@ -32,17 +28,8 @@ returns c =
       ap chain_of_words (c.put_sound.ensures.0 ∙ ap (sound_words w) q) ∙ reset_stands w small h (subst (λ (x : Pipeline). All HeldMemory (stages_of x)) q c.put_sound.ensures.1),
     )
 
-returns-2 : tie.Need-returns
-returns-2 c =
+pub returns : goal.returns
+returns c =
     let w = c.args.words.now in
     let h : stands w ≡ false = sym c.stand.ensures ∙ c.if-stand.false in
     (rw h, rw (no_words w h) (sym no_chain_reset))
-
-pub reset_spec : {M : Type 1} → statement M
-reset_spec = tie.close (tie.spec
-    (λ c κs. search rules) (λ c κs. search rules) (λ c κs. search rules)
-    put-sound-requires
-    (λ c. search rules)
-    returns
-    (λ c. search rules)
-    returns-2)
