@@ -93,12 +93,8 @@ fn conclude(chain: Pipeline, done: EndApplied) -> Finished
     requires { legal chain ≡ true }
     ensures { result ≡ ended_as chain done }
 {
-    let answer = answers::finish_answered(
-        chain.output_format(),
-        chain.count,
-        done.len,
-        done.clipped,
-    );
+    let format = chain.output_format();
+    let answer = answers::finish_answered(format, chain.count, done.len, done.clipped);
     let cleared = chain.reset();
     Finished {
         chain: cleared,
