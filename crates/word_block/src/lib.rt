@@ -18,8 +18,8 @@ use pcm::{Error, PcmFormat};
 use questions::{Question, Walk};
 use stage::Stage;
 
-#[tactic(auto, unfolding(crate::specs::Words::legal_head), using(chain_words::specs::laws::Chains::stands_long))]
 // Do the words stand for a chain whose count and format are within their limits?
+#[tactic(auto, unfolding(crate::specs::Words::legal_head), using(chain_words::specs::laws::Chains::stands_long))]
 pub fn legal_head(words: &[u32]) -> bool
     ensures { result ≡ legal_head words.now }
 {
