@@ -21,11 +21,8 @@ counted_up n = cond (ltb n 18446744073709551615) (n + 1) n
 
 -- 'nothing yet' where no bytes come out; else the format, half and length of the output; the timestamp is copied through. Either way how many
 -- samples the stages held back (document 02, Q-2)
-abbrev pub output_answer : PcmFormat → ℕ → Half → ℕ → ℕ → Answer
+abbrev pub output_answer : {T : Type 0} → PcmFormat → T → Half → ℕ → ℕ → Answer T
 output_answer format timestamp side len clipped = cond (eqb len 0) (answer.NothingYet clipped) (answer.Output format timestamp side len clipped)
-
-abbrev pub shorter_of : ℕ → ℕ → ℕ
-shorter_of a b = cond (leb a b) a b
 
 -- ---- the output as a part of the half that holds it, empty if the length given exceeds that half
 abbrev pub front_of : ℕ → List ℕ → List ℕ
@@ -34,6 +31,11 @@ front_of n l = cond (leb n (length l)) (take n l) []
 abbrev pub output_of : Half → ℕ → List ℕ → List ℕ → List ℕ
 output_of half.A n a b = front_of n a
 output_of half.B n a b = front_of n b
+
+-- the sound that an answer names, none where it brought nothing yet
+abbrev pub sound_of : {T : Type 0} → Answer T → List ℕ → List ℕ → List ℕ
+sound_of (answer.Output format timestamp side len clipped) a b = output_of side len a b
+sound_of (answer.NothingYet clipped) a b = []
 
 -- 0 is half a, 1 is half b
 abbrev pub half_number : Half → ℕ
@@ -50,10 +52,10 @@ abbrev pub silent_told : ℕ → ℕ → ℕ → ℕ → Told
 silent_told number needed outcome clipped =
     record { number = number; needed = needed; outcome = outcome; rate = 0; channels = 0; timestamp = 0; half = 0; len = 0; clipped = clipped }
 
-abbrev pub answer_told : Answer → Told
-answer_told (answer.Output f timestamp side len clipped) = sound_told f timestamp side len clipped
-answer_told (answer.NothingYet clipped) = silent_told 0 0 2 clipped
-answer_told (answer.Refused e) = silent_told (refusal e).number (refusal e).needed 0 0
+abbrev pub answer_told : Result (Answer ℕ) Error → Told
+answer_told (Ok (answer.Output f timestamp side len clipped)) = sound_told f timestamp side len clipped
+answer_told (Ok (answer.NothingYet clipped)) = silent_told 0 0 2 clipped
+answer_told (Err e) = silent_told (refusal e).number (refusal e).needed 0 0
 
 -- ---- scratch_bytes: number and value
 abbrev pub scratch_told : (Result ℕ Error) → Valued

@@ -1,36 +1,25 @@
 // What a block or finish call answers: its numbers and values, the counters, the halves in turn, and the output as a part of one (pipeline.rs).
 #![tactic(auto)]
 
-ghost use Rattle.std.specs.Prelude.{◌≡◌, ◌≤◌, ◌<◌, length};
-ghost use Rattle.answers.specs.Answers.{counted_up, last_half, output_answer, shorter_of, front_of, output_of, half_number, silent_told, answer_told, counted_if, unstaged, next_stage};
-ghost use Rattle.answers.specs.FinishAnswers.{finish_answer, silent_finish_told, finish_told};
+ghost use Rattle.std.specs.Prelude.{◌≡◌, ◌≤◌, length};
+ghost use Rattle.answers.specs.Answers.{counted_up, last_half, output_answer, front_of, output_of, sound_of, answer_told, counted_if, unstaged};
+ghost use Rattle.answers.specs.FinishAnswers.{finish_told};
 
 use pcm::{Error, PcmFormat};
 
 #[derive(Clone, Copy)]
 pub enum Half {
-    A,
-    B,
+    A = 0,
+    B = 1,
 }
 
-impl Half {
-    // 0 is half a, 1 is half b.
-    pub fn number(self) -> u8
-        ensures { result ≡ half_number self }
-    {
-        match self {
-            Half::A => 0,
-            Half::B => 1,
-        }
-    }
-}
-
-// `clipped` is how many samples the stages held back (document 02, Q-2).
+// What an accepted call brought: sound, or nothing yet. A block's timestamp is copied through; a finish has none, `()`. `clipped` is how many
+// samples the stages held back (document 02, Q-2).
 #[derive(Clone, Copy)]
-pub enum Answer {
+pub enum Answer<T> {
     Output {
         format: PcmFormat,
-        timestamp: u64,
+        timestamp: T,
         half: Half,
         len: usize,
         clipped: usize,
@@ -38,11 +27,22 @@ pub enum Answer {
     NothingYet {
         clipped: usize,
     },
-    Refused(Error),
 }
 
-// Number and values of an answer. Outcome: 0 refused, 1 sound, 2 nothing yet; what follows it is zero but for sound, and `clipped` but for
-// a refusal.
+impl<T: Copy> Answer<T> {
+    // The part of the halves that holds the sound, empty where there is none yet, or its length exceeds that half.
+    pub fn output<'a>(self, a: &'a [u8], b: &'a [u8]) -> &'a [u8]
+        ensures { result.now ≡ sound_of self a.now b.now }
+    {
+        match self {
+            Answer::Output { half, len, .. } => output(a, b, half, len),
+            Answer::NothingYet { .. } => &[],
+        }
+    }
+}
+
+// Number and values of a block's answer. Outcome: 0 refused, 1 sound, 2 nothing yet; what follows it is zero but for sound, and `clipped` but
+// for a refusal. Half: 0 is half a, 1 is half b.
 #[repr(C)]
 #[derive(Clone, Copy, Default)]
 pub struct Told {
@@ -57,64 +57,45 @@ pub struct Told {
     pub clipped: usize,
 }
 
-// What is told where there is no sound.
-fn silent(number: u16, needed: usize, outcome: u8, clipped: usize) -> Told
-    ensures { result ≡ silent_told number needed outcome clipped }
-{
-    Told {
-        number,
-        needed,
-        outcome,
-        clipped,
-        ..Told::default()
-    }
-}
+impl From<Result<Answer<u64>, Error>> for Told {
+    ghost from_gives = { λ answer told. told ≡ answer_told answer };
 
-impl Answer {
     // Number and values of each case.
-    pub fn told(self) -> Told
-        ensures { result ≡ answer_told self }
-    {
-        match self {
-            Answer::Output {
-                format,
-                timestamp,
-                half,
-                len,
-                clipped,
-            } => Told {
-                number: 0,
-                needed: 0,
+    fn from(answer: Result<Answer<u64>, Error>) -> Told {
+        match answer {
+            Ok(
+                Answer::Output {
+                    format,
+                    timestamp,
+                    half,
+                    len,
+                    clipped,
+                },
+            ) => Told {
                 outcome: 1,
                 rate: format.rate,
                 channels: format.channels,
                 timestamp,
-                half: half.number(),
+                half: half as u8,
                 len,
                 clipped,
+                ..Told::default()
             },
-            Answer::NothingYet { clipped } => silent(0, 0, 2, clipped),
-            Answer::Refused(e) => silent(e.number(), e.needed(), 0, 0),
+            Ok(Answer::NothingYet { clipped }) => Told {
+                outcome: 2,
+                clipped,
+                ..Told::default()
+            },
+            Err(e) => Told {
+                number: e.number(),
+                needed: e.needed(),
+                ..Told::default()
+            },
         }
     }
 }
 
-// What a finish answers: as a block, with no timestamp.
-#[derive(Clone, Copy)]
-pub enum FinishAnswer {
-    Output {
-        format: PcmFormat,
-        half: Half,
-        len: usize,
-        clipped: usize,
-    },
-    NothingYet {
-        clipped: usize,
-    },
-    Refused(Error),
-}
-
-// Number and values of it, as of a block.
+// Number and values of a finish's answer, as of a block. Kept beside `Told`, since C has a struct of its own for it, with no timestamp.
 #[repr(C)]
 #[derive(Clone, Copy, Default)]
 pub struct FinishTold {
@@ -128,42 +109,39 @@ pub struct FinishTold {
     pub clipped: usize,
 }
 
-// What is told of a finish where there is no sound.
-fn silent_finish(number: u16, needed: usize, outcome: u8, clipped: usize) -> FinishTold
-    ensures { result ≡ silent_finish_told number needed outcome clipped }
-{
-    FinishTold {
-        number,
-        needed,
-        outcome,
-        clipped,
-        ..FinishTold::default()
-    }
-}
+impl From<Result<Answer<()>, Error>> for FinishTold {
+    ghost from_gives = { λ answer told. told ≡ finish_told answer };
 
-impl FinishAnswer {
     // Number and values of each case.
-    pub fn told(self) -> FinishTold
-        ensures { result ≡ finish_told self }
-    {
-        match self {
-            FinishAnswer::Output {
-                format,
-                half,
-                len,
-                clipped,
-            } => FinishTold {
-                number: 0,
-                needed: 0,
+    fn from(answer: Result<Answer<()>, Error>) -> FinishTold {
+        match answer {
+            Ok(
+                Answer::Output {
+                    format,
+                    timestamp: (),
+                    half,
+                    len,
+                    clipped,
+                },
+            ) => FinishTold {
                 outcome: 1,
                 rate: format.rate,
                 channels: format.channels,
-                half: half.number(),
+                half: half as u8,
                 len,
                 clipped,
+                ..FinishTold::default()
             },
-            FinishAnswer::NothingYet { clipped } => silent_finish(0, 0, 2, clipped),
-            FinishAnswer::Refused(e) => silent_finish(e.number(), e.needed(), 0, 0),
+            Ok(Answer::NothingYet { clipped }) => FinishTold {
+                outcome: 2,
+                clipped,
+                ..FinishTold::default()
+            },
+            Err(e) => FinishTold {
+                number: e.number(),
+                needed: e.needed(),
+                ..FinishTold::default()
+            },
         }
     }
 }
@@ -193,14 +171,14 @@ fn last_half(count: usize) -> Half
     }
 }
 
-// The answer of an accepted block of which so many bytes came out and so many samples were held back.
-pub fn answered(
+// The answer of an accepted call of which so many bytes came out and so many samples were held back.
+pub fn answered<T: Copy>(
     format: PcmFormat,
-    timestamp: u64,
+    timestamp: T,
     count: usize,
     len: usize,
     clipped: usize,
-) -> Answer
+) -> Answer<T>
     ensures { result ≡ output_answer format timestamp (last_half count) len clipped }
 {
     if len == 0 {
@@ -215,27 +193,6 @@ pub fn answered(
     }
 }
 
-// The same of a finish.
-pub fn finish_answered(format: PcmFormat, count: usize, len: usize, clipped: usize) -> FinishAnswer
-    ensures { result ≡ finish_answer format (last_half count) len clipped }
-{
-    if len == 0 {
-        return FinishAnswer::NothingYet { clipped };
-    }
-    FinishAnswer::Output {
-        format,
-        half: last_half(count),
-        len,
-        clipped,
-    }
-}
-
-pub fn shorter_of(a: usize, b: usize) -> usize
-    ensures { result ≡ shorter_of a b }
-{
-    a.min(b)
-}
-
 // No stages: the block is copied to a.
 pub fn copy_unstaged(count: usize, block: &[u8], a: &mut [u8])
     requires { count ≡ 0 → length block.now ≤ length a.old }
@@ -244,14 +201,6 @@ pub fn copy_unstaged(count: usize, block: &[u8], a: &mut [u8])
     if count == 0 {
         copying::copy_front(block, a);
     }
-}
-
-// The stage after stage i, of `count`; none after one that delivers 0 bytes.
-pub fn next_stage(i: usize, count: usize, len: usize) -> usize
-    requires { i < count }
-    ensures { result ≡ next_stage i count len }
-{
-    if len == 0 { count } else { i + 1 }
 }
 
 // The output as a part of the half that holds it; empty if `len` exceeds that half.

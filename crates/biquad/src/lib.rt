@@ -86,6 +86,7 @@ impl Biquad {
     }
 
     // Filters the whole frames of `input` into the front of `out`; the memory goes in and comes back, beside how many samples were held back.
+    // Kept: a method of each filter over the shared loop: its promise names the filter's own recurrence.
     pub fn process(
         self,
         input: &[u8],

@@ -1,1 +1,2 @@
+mod Playing
 mod Telling

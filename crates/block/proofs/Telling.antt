@@ -28,7 +28,7 @@ module _ (c : Pipeline) (format : PcmFormat) (t : ℕ) (block a b : List ℕ) wh
   abbrev held : ℕ
   held = block_clipped c block
 
-  nothing_or_sound : (none : Bool) → answer_told (cond none (answer.NothingYet held) (answer.Output leaving t (last_half c.count) len held)) ≡ cond none (silent_told 0 0 2 held) (sound_told leaving t (last_half c.count) len held)
+  nothing_or_sound : (none : Bool) → answer_told (Ok (cond none (answer.NothingYet held) (answer.Output leaving t (last_half c.count) len held))) ≡ cond none (silent_told 0 0 2 held) (sound_told leaving t (last_half c.count) len held)
   nothing_or_sound true = refl
   nothing_or_sound false = refl
 

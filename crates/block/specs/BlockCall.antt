@@ -1,6 +1,6 @@
 -- The block call (document 01, pipeline.rs and 'The questions'; document 02, Q-2): from a chain and a call to all that is there afterwards. Definitions only.
 use Rattle.pcm.specs.declared.Error.{Error}
-use Rattle.std.specs.Prelude.{Bool, true, cond, ◌&&◌, List, [], ◌∷◌, ◌++◌, ℕ, suc, ◌*◌, ◌/◌, ◌%◌, eqb, leb, length, drop, Ok, Err, Result}
+use Rattle.std.specs.Prelude.{Bool, true, cond, ◌&&◌, List, [], ◌∷◌, ◌++◌, ℕ, suc, ◌*◌, ◌/◌, ◌%◌, min, eqb, leb, length, drop, Ok, Err, Result}
 use Rattle.pcm.specs.declared.PcmFormat.{PcmFormat}
 use Rattle.pcm.specs.declared.Error.TheVariants.{InvalidFormat, Unsupported, BufferTooSmall, InvalidGeometry, TooLong}
 use Rattle.pcm.specs.Formats.{format_allowed}
@@ -12,12 +12,11 @@ use Rattle.stage.specs.Rooms.{stage_suits, frames_out, frames_wanted, room_wante
 use Rattle.pipeline.specs.declared.Pipeline.{Pipeline}
 use Rattle.pipeline.specs.WritingBack.{stages_of}
 use Rattle.answers.specs.declared.Answer.{Answer}
-use Rattle.answers.specs.declared.Answer.TheVariants as answer
 use Rattle.block.specs.Chain.{chain_out, chain_next, chain_clipped}
 use Rattle.pipeline.specs.Reset.{format_leaving}
 use Rattle.questions.specs.Walk.{whole_frames, same_format, larger}
 use Rattle.turns.specs.Turns.{Halves}
-use Rattle.answers.specs.Answers.{last_half, counted_up, output_answer, shorter_of}
+use Rattle.answers.specs.Answers.{last_half, counted_up, output_answer}
 
 -- each stage suits the format that reaches it
 unfoldable pub suited : PcmFormat → List Stage → Bool
@@ -75,7 +74,7 @@ halves_after (s ∷ rest) xs bytes h = passed 0 (s ∷ rest) xs h
 -- what a call leaves behind
 pub record BlockResult : Type 0 where
   pub chain : Pipeline
-  pub answer : Answer
+  pub answer : Result (Answer ℕ) Error
   pub a : List ℕ
   pub b : List ℕ
 
@@ -100,18 +99,18 @@ block_clipped c bytes = chain_clipped (stages_of c) (frames_of c.format.channels
 unfoldable pub accepted : Pipeline → ℕ → List ℕ → Halves → BlockResult
 accepted c timestamp bytes h = record {
   chain = counted_chain c (chain_next (stages_of c) (frames_of c.format.channels bytes) ++ drop c.count c.stages) (output_bytes c bytes);
-  answer = output_answer (format_leaving c.format (stages_of c)) timestamp (last_half c.count) (output_bytes c bytes) (block_clipped c bytes);
+  answer = Ok (output_answer (format_leaving c.format (stages_of c)) timestamp (last_half c.count) (output_bytes c bytes) (block_clipped c bytes));
   a = (halves_after (stages_of c) (frames_of c.format.channels bytes) bytes h).a;
   b = (halves_after (stages_of c) (frames_of c.format.channels bytes) bytes h).b;
 }
 
 abbrev pub shorter : List ℕ → List ℕ → ℕ
-shorter a b = shorter_of (length a) (length b)
+shorter a b = min (length a) (length b)
 
 -- a refusal alters nothing
 abbrev pub concluded : Verdict → Pipeline → ℕ → List ℕ → Halves → BlockResult
 concluded (Ok _) c timestamp bytes h = accepted c timestamp bytes h
-concluded (Err e) c timestamp bytes h = record { chain = c; answer = answer.Refused e; a = h.a; b = h.b }
+concluded (Err e) c timestamp bytes h = record { chain = c; answer = Err e; a = h.a; b = h.b }
 
 -- the block call: from the chain, the block and the two halves to all that is there afterwards
 unfoldable pub block_call : Pipeline → PcmFormat → ℕ → List ℕ → List ℕ → List ℕ → BlockResult

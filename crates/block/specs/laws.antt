@@ -5,6 +5,7 @@ pub mod Chain
 pub mod Clips
 pub mod Concluding
 pub mod Counts
+pub mod Heads
 pub mod Reaching
 pub mod Scratch
 pub mod Stages

@@ -1,77 +1,69 @@
 // The block call of a chain (pipeline.rs): room asked first, then the stages in turn over two lent halves.
 #![tactic(auto)]
 
-ghost use Rattle.std.specs.Prelude.{◌≡◌};
+ghost use Rattle.std.specs.Prelude.{◌≡◌, OnErr};
 ghost use Rattle.pcm.specs.Refusals.{valued};
 ghost use Rattle.pipeline.specs.WritingBack.{stages_of};
 ghost use Rattle.questions.specs.Walk.{walked, Walked};
 ghost use Rattle.answers.specs.Answers.{answer_told, scratch_told};
-ghost use Rattle.block.specs.BlockCall.{block_call, size_asked, scratch_figure, scratch_bytes};
+ghost use Rattle.turns.specs.Turns.{halves};
+ghost use Rattle.chains.specs.Chains.{head_in, Headed};
+ghost use Rattle.block.specs.BlockCall.{block_call, accepted, block_verdict, size_asked, scratch_figure, scratch_bytes};
+ghost use Rattle.block.specs.Turns.{Accepts};
 ghost use Rattle.block.specs.Told.{block_told};
 ghost use Rattle.block.specs.laws.Asking.{Asks};
 
 use answers::Answer;
+use chains::{Chain, Head, Outcome};
 use pcm::{Error, PcmFormat};
 use pipeline::Pipeline;
-use questions::{Question, Walk};
+use questions::{Asking, Question, Walk};
 use stage::Stage;
 
-#[derive(Clone, Copy)]
-pub struct Outcome {
-    pub chain: Pipeline,
-    pub answer: Answer,
-}
-
-// A refusal alters nothing.
-fn refused(chain: Pipeline, e: Error) -> Outcome
-    ensures { (result.chain ≡ chain) × (result.answer ≡ Answer.Refused e) }
-{
-    Outcome {
-        chain,
-        answer: Answer::Refused(e),
-    }
-}
-
-// The block call: the chain afterwards and the answer. The output, where there is one, stands at the front of the half named.
-// One walk asks and one walk plays, both here: a chain handed to a helper is a copy of some 900 bytes.
-pub fn process(
-    mut chain: Pipeline,
+// The verdict on a block of so many bytes, whose shorter half is of `shorter` bytes.
+fn asked<C: Chain>(
+    chain: &C,
+    own: Head,
     format: PcmFormat,
+    size: usize,
+    shorter: usize,
+) -> Result<(), Error>
+    requires { Headed (C.chain chain.now) own }
+    ensures { result ≡ block_verdict (C.chain chain.now) format size shorter }
+{
+    let asking = Asking {
+        question: Question::Block,
+        shorter,
+    };
+    let start = asking.begun(own.format, own.count, size);
+    let walk = walked(chain, own, asking, start)?;
+    questions::verdict(own.format, format, size, walk)
+}
+
+// A block that was accepted, through the stages in turn.
+fn play<C: Chain>(
+    chain: &mut C,
+    own: Head,
     timestamp: u64,
     block: &[u8],
     a: &mut [u8],
     b: &mut [u8],
-) -> Outcome
-    ensures all { record { chain = result.chain; answer = result.answer; a = a.new; b = b.new } ≡ block_call chain format timestamp block.now a.old b.old }
-    ensures told { answer_told result.answer ≡ block_told chain format timestamp block.now a.old b.old }
+) -> Answer<u64>
+    requires head { Headed (C.chain chain.old) own }
+    requires accepts { Accepts (C.chain chain.old) block.now a.old b.old }
+    ensures all { record { chain = C.chain chain.new; answer = Ok result; a = a.new; b = b.new } ≡ accepted (C.chain chain.old) timestamp block.now (halves a.old b.old) }
+    ensures rest { C.stays chain.old chain.new }
 {
-    let own = chain.format;
-    let count = chain.count;
-    if !questions::head_legal(own, count) {
-        return refused(chain, Error::InvalidFormat);
-    }
-    let size = block.len();
-    let shorter = answers::shorter_of(a.len(), b.len());
-    let mut walk = questions::begun(own, count, size, shorter);
-    for s in &chain.stages[..count] {
-        walk = questions::asked(walk, *s, Question::Block, shorter);
-    }
-    let verdict = questions::verdict(own, format, size, walk);
-    if let Err(e) = verdict {
-        return refused(chain, e);
-    }
-    answers::copy_unstaged(count, block, a);
-    let mut reaching = own;
-    let mut len = size;
+    answers::copy_unstaged(own.count, block, a);
+    let mut reaching = own.format;
+    let mut len = block.len();
     let mut clipped: usize = 0;
-    for i in 0..count {
-        let s = chain.stages[i];
+    for i in 0..own.count {
+        let s = chain.stage(i);
         let kind = s.kind;
         let t = turns::turn(reaching, s, i, len, block, a, b);
-        if stage::remembers(kind) {
-            let memory = t.memory;
-            chain.stages[i] = Stage { kind, memory };
-        }
+        let memory = t.memory;
+        chain.hold(i, Stage { kind, memory });
         len = t.len;
         clipped += t.clipped;
         reaching = stage::format_after(reaching, kind);
@@ -79,38 +71,80 @@ pub fn process(
             break;
         }
     }
-    let blocks = answers::count_up(chain.blocks);
-    chain.blocks = blocks;
-    let empty_blocks = answers::count_empty(chain.empty_blocks, len);
-    chain.empty_blocks = empty_blocks;
-    let answer = answers::answered(reaching, timestamp, count, len, clipped);
+    chain.count_block(len);
+    answers::answered(reaching, timestamp, own.count, len, clipped)
+}
+
+// The block call on a chain, however it is kept. The output, where there is one, stands at the front of the half named. A refusal alters
+// nothing.
+pub fn call<C: Chain>(
+    chain: &mut C,
+    format: PcmFormat,
+    timestamp: u64,
+    block: &[u8],
+    a: &mut [u8],
+    b: &mut [u8],
+) -> Result<Answer<u64>, Error>
+    ensures all { record { chain = C.chain chain.new; answer = result; a = a.new; b = b.new } ≡ block_call (C.chain chain.old) format timestamp block.now a.old b.old }
+    ensures rest { C.stays chain.old chain.new }
+    ensures refused { OnErr result (chain.new ≡ chain.old) }
+{
+    let own = chain.head()?;
+    asked(chain, own, format, block.len(), a.len().min(b.len()))?;
+    Ok(play(chain, own, timestamp, block, a, b))
+}
+
+// The block call on a chain by value.
+pub fn process(
+    mut chain: Pipeline,
+    format: PcmFormat,
+    timestamp: u64,
+    block: &[u8],
+    a: &mut [u8],
+    b: &mut [u8],
+) -> Outcome<u64>
+    ensures all { record { chain = result.chain; answer = result.answer; a = a.new; b = b.new } ≡ block_call chain format timestamp block.now a.old b.old }
+    ensures told { answer_told result.answer ≡ block_told chain format timestamp block.now a.old b.old }
+{
+    let answer = call(&mut chain, format, timestamp, block, a, b);
     Outcome { chain, answer }
 }
 
-// What the walk that asks finds along the stages, from the walk before the first of them. `process` alone walks by itself.
-pub fn walked(chain: Pipeline, question: Question, shorter: usize, start: Walk) -> Walk
-    requires { Asks question shorter start.format.rate chain.stages chain.count start start 0 }
-    ensures { Walked result (walked question shorter start (stages_of chain)) }
+// What the walk that asks finds along the stages in use, from the walk before the first of them.
+// Kept: the head and the start as parameters: callers begin the walk each with a question, a count and a size of its own, and to ask the chain
+// for its head again would read its words twice.
+pub fn walked<C: Chain>(chain: &C, own: Head, asking: Asking, start: Walk) -> Result<Walk, Error>
+    requires head { own ≡ head_in (C.chain chain.now) }
+    requires start { Asks asking.question asking.shorter start.format.rate (C.chain chain.now).stages own.count start start 0 }
+    ensures { Walked result (walked asking.question asking.shorter start (stages_of (C.chain chain.now))) }
 {
     let mut walk = start;
-    for s in &chain.stages[..chain.count] {
-        walk = questions::asked(walk, *s, question, shorter);
+    for i in 0..own.count {
+        walk = asking.step(walk, chain.stage(i))?;
     }
-    walk
+    Ok(walk)
 }
 
 // Twice the bytes of a half: two such halves are enough for any block of `size` bytes, in any state. The block itself counts, as for
 // a chain of no stages.
+pub fn scratch_of<C: Chain>(chain: &C, size: usize) -> Result<usize, Error>
+    ensures { result ≡ scratch_bytes (C.chain chain.now) size }
+{
+    let own = chain.head()?;
+    let asking = Asking {
+        question: Question::AnyState,
+        shorter: size,
+    };
+    let start = asking.begun(own.format, 0, size);
+    let walk = walked(chain, own, asking, start)?;
+    questions::size_question(own.format, size)?;
+    Ok(2 * walk.largest)
+}
+
+// The same of a chain by value, as document 01 carries it.
 pub fn scratch_bytes(chain: Pipeline, size: usize) -> Result<usize, Error>
     ensures all { result ≡ scratch_bytes chain size }
     ensures told { scratch_told result ≡ valued (size_asked chain size (Ok tt)) (scratch_figure chain size) }
 {
-    let own = chain.format;
-    if !questions::head_legal(own, chain.count) {
-        return Err(Error::InvalidFormat);
-    }
-    let start = questions::begun(own, 0, size, size);
-    let walk = walked(chain, Question::AnyState, size, start);
-    questions::sized(own, size, walk)?;
-    Ok(2 * walk.largest)
+    scratch_of(&chain, size)
 }

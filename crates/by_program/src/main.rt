@@ -2,8 +2,8 @@
 // number, then bytes; and the last sample of what a finish delivers. Then rates divided by their greatest common divisor.
 #![tactic(auto)]
 
-use answers::{Answer, FinishAnswer};
-use pcm::PcmFormat;
+use answers::Answer;
+use pcm::{Error, PcmFormat};
 use pipeline::Pipeline;
 use rates::LinearResampler;
 use std::io;
@@ -16,6 +16,19 @@ fn line(rt: &impl Print, label: &str, number: u16, bytes: usize) -> io::Result<(
 // A label, 0, and 'nothing yet' in words: no output of length 0 looks the same.
 fn nothing_yet(rt: &impl Print, label: &str) -> io::Result<()> {
     println!(rt; "{label}: 0 nothing yet")
+}
+
+// What a block or finish call answers: the output's bytes, 'nothing yet' or the bytes needed.
+fn answered<T: Copy>(
+    rt: &impl Print,
+    label: &str,
+    answer: Result<Answer<T>, Error>,
+) -> io::Result<()> {
+    match answer {
+        Ok(Answer::Output { len, .. }) => line(rt, label, 0, len),
+        Ok(Answer::NothingYet { .. }) => nothing_yet(rt, label),
+        Err(e) => line(rt, label, e.number(), e.needed()),
+    }
 }
 
 // The last sample of a sound, as a number from 0 on.
@@ -42,7 +55,7 @@ impl<const A: usize, const B: usize> Halves<A, B> {
         }
     }
 
-    // One block through a chain: the output's bytes, 'nothing yet' or the bytes needed are told, and the chain goes on.
+    // One block through a chain: its answer is told, and the chain goes on.
     fn block(
         &mut self,
         rt: &impl Print,
@@ -51,37 +64,16 @@ impl<const A: usize, const B: usize> Halves<A, B> {
         sound: &[u8],
     ) -> io::Result<Pipeline> {
         let done = block::process(chain, chain.format, 0, sound, &mut self.a, &mut self.b);
-        let answer = done.answer;
-        match answer {
-            Answer::Output {
-                format: _,
-                timestamp: _,
-                half: _,
-                len,
-                clipped: _,
-            } => line(rt, label, 0, len)?,
-            Answer::NothingYet { clipped: _ } => nothing_yet(rt, label)?,
-            Answer::Refused(e) => line(rt, label, e.number(), e.needed())?,
-        }
+        answered(rt, label, done.answer)?;
         Ok(done.chain)
     }
 
-    // A finish: the output's bytes and its last sample, 'nothing yet' or the bytes needed are told, and the chain goes on.
+    // A finish: its answer and the output's last sample are told, and the chain goes on.
     fn finish(&mut self, rt: &impl Print, label: &str, chain: Pipeline) -> io::Result<Pipeline> {
         let done = finish::finish(chain, &mut self.a, &mut self.b);
-        let answer = done.answer;
-        match answer {
-            FinishAnswer::Output {
-                format: _,
-                half,
-                len,
-                clipped: _,
-            } => {
-                line(rt, label, 0, len)?;
-                last_sample(rt, answers::output(&self.a, &self.b, half, len))?;
-            }
-            FinishAnswer::NothingYet { clipped: _ } => nothing_yet(rt, label)?,
-            FinishAnswer::Refused(e) => line(rt, label, e.number(), e.needed())?,
+        answered(rt, label, done.answer)?;
+        if let Ok(answer) = done.answer {
+            last_sample(rt, answer.output(&self.a, &self.b))?;
         }
         Ok(done.chain)
     }

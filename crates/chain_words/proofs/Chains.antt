@@ -7,9 +7,6 @@ use Prim.Native.Nat.{ℕ, zero, suc, ◌+◌, ◌*◌, ◌≤◌, ◌<◌}
 use native.Mathlib.Numerals.{add-one}
 use native.Mathlib.Omega.{arith}
 use lib.ListN.{length, get_or, take}
-use mir.Syntax.{w32}
-use mir.Val.{Fits}
-use lib.Seq.{get_or-drop}
 use Rattle.pcm.specs.Samples.{All}
 use Rattle.stage.specs.declared.Stage.{Stage}
 use Rattle.recipe.specs.Records.{of_stage}
@@ -18,6 +15,7 @@ use Rattle.stage_words.specs.Layout.{words_of_stage, word}
 use Rattle.stage_words.specs.Storable.{Small}
 use Rattle.stage_words.specs.laws.Reading.{small_stage}
 use Rattle.chain_words.specs.Layout.{stages_words, place_of, stages_from, kinds_known, no_chain}
+use Rattle.chain_words.specs.laws.Places.{place_small}
 
 -- ---- the stages one at a time
 pub stages_next : (l : List Stage) (i : ℕ) (d : Stage) → i < length l → stages_words (take (i + 1) l) ≡ stages_words (take i l) ++ words_of_stage (get_or l i d)
@@ -54,10 +52,7 @@ module _ (w : List ℕ) where
       go (no l) f = let q : k ≡ i = omega arith in rw (subst (λ (j : ℕ). of_stage (word w (8 + 18 * j)) ≡ false) q e)
 
 -- ---- a chain of words is small
-pub place_small : (w : List ℕ) (i : ℕ) → ((j : ℕ) → Fits w32 (word w j)) → (j : ℕ) → word (place_of w i) j < 4294967296
-place_small w i h j = rw (get_or-drop (8 + 18 * i) w j 0) (h (8 + 18 * i + j)).fits
-
-pub small_stages : (w : List ℕ) → ((i : ℕ) → Fits w32 (word w i)) → (i n : ℕ) → All Small (stages_from w i n)
+pub small_stages : (w : List ℕ) → ((i : ℕ) → word w i < 4294967296) → (i n : ℕ) → All Small (stages_from w i n)
 small_stages w h i zero = tt
 small_stages w h i (suc n) = (small_stage (place_of w i) (place_small w i h), small_stages w h (suc i) n)
 

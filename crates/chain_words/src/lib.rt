@@ -1,15 +1,15 @@
 // A chain as plain words in the caller's memory: eight words for the chain, then eighteen for each of its eight stages.
 #![tactic(auto)]
 
-ghost use Rattle.std.specs.Prelude.{◌≡◌, [], ◌∷◌, ◌+◌, ◌*◌, ◌/◌, ◌%◌, ◌≤◌, ◌<◌, ◌^◌, length, take};
+ghost use Rattle.std.specs.Prelude.{◌≡◌, ◌&&◌, leb, [], ◌∷◌, ◌+◌, ◌*◌, ◌/◌, ◌%◌, ◌≤◌, ◌<◌, ◌^◌, length, take};
 ghost use Rattle.std.proofs.lemmas.List.Edits.{sets};
 ghost use Rattle.pcm.specs.Samples.{All};
 ghost use Rattle.pcm.specs.Frames.{written};
 ghost use Rattle.recipe.specs.Records.{of_stage};
 ghost use Rattle.pipeline.specs.WritingBack.{stages_of};
 ghost use Rattle.stage_words.specs.Layout.{filter_words, state_words, memory_words, words_of_stage, held_at, held_words, word};
-ghost use Rattle.stage_words.specs.Storable.{TwoSamples, HeldFilter, HeldStage, HeldMemory, HeldBy, SmallKind, Small};
-ghost use Rattle.chain_words.specs.Kept.{kept_words, with_sound};
+ghost use Rattle.stage_words.specs.Storable.{TwoSamples, HeldFilter, HeldStage, HeldMemory, HeldBy, Small};
+ghost use Rattle.chain_words.specs.Kept.{kept_words, sound_words};
 ghost use Rattle.chain_words.specs.Layout.{place_of, counter_words, head_words, words_of, stage_at, format_of, counter_at, chain_at, kinds_known, stands, no_chain, chain_of_words};
 
 use filters::FilterMemory;
@@ -21,43 +21,30 @@ use stage::{SoundMemory, Stage, StageKind};
 // The words of a chain.
 pub const CHAIN_WORDS: usize = 152;
 
-// Kept: slices of at least 152 words in place of `&[u32; 152]`. The callers hold what C hands over, of any length, and write through it
-// from stage to stage; each would have to cut the array out again at every call.
+pub type Words = [u32; CHAIN_WORDS];
 
 // ---- the stage at a place
 // Its eighteen words.
-fn words_at(w: &[u32], i: usize) -> &[u32; 18]
-    requires { (i < 8) × (152 ≤ length w.now) }
+// Kept: `i < 8` in each contract: the place is a number that the walk counts, and a type of eight of them would be taken apart at every use.
+fn words_at(w: &Words, i: usize) -> &[u32; 18]
+    requires { i < 8 }
     ensures { result.now ≡ take 18 (place_of w.now i) }
 {
     let place = 8 + 18 * i;
     w[place..place + 18].as_array().unwrap()
 }
 
-pub fn stage_at(w: &[u32], i: usize) -> Stage
-    requires { (i < 8) × (152 ≤ length w.now) }
+// Taken in by each caller, as `stage_words::stage_of` is.
+#[inline(always)]
+pub fn stage_at(w: &Words, i: usize) -> Stage
+    requires { i < 8 }
     ensures { result ≡ stage_at w.now i }
 {
     stage_words::stage_of(words_at(w, i))
 }
 
-// Its kind, and apart from that what it remembers.
-pub fn kind_at(w: &[u32], i: usize) -> StageKind
-    requires { (i < 8) × (152 ≤ length w.now) }
-    ensures { (result ≡ (stage_at w.now i).kind) × SmallKind result }
-{
-    stage_words::kind_of(words_at(w, i))
-}
-
-pub fn memory_at(w: &[u32], i: usize) -> SoundMemory
-    requires { (i < 8) × (152 ≤ length w.now) }
-    ensures { (result ≡ (stage_at w.now i).memory) × (result.resampler.phase < 2 ^ 32) }
-{
-    stage_words::memory_of(words_at(w, i))
-}
-
-pub fn put_stage_at(w: &mut [u32], i: usize, s: Stage)
-    requires { (i < 8) × (152 ≤ length w.old) }
+pub fn put_stage_at(w: &mut Words, i: usize, s: Stage)
+    requires { i < 8 }
     ensures { (w.new ≡ sets w.old (8 + 18 * i) (words_of_stage s)) × HeldStage s }
 {
     let place = 8 + 18 * i;
@@ -66,8 +53,8 @@ pub fn put_stage_at(w: &mut [u32], i: usize, s: Stage)
 }
 
 // The whole memory; kind and settings stay.
-pub fn put_memory_at(w: &mut [u32], i: usize, m: SoundMemory)
-    requires { (i < 8) × (152 ≤ length w.old) }
+pub fn put_memory_at(w: &mut Words, i: usize, m: SoundMemory)
+    requires { i < 8 }
     ensures { (w.new ≡ sets w.old (8 + 18 * i + 7) (memory_words m)) × HeldFilter m.filter × TwoSamples m.resampler.last }
 {
     put_filter_at(w, i, m.filter);
@@ -76,8 +63,8 @@ pub fn put_memory_at(w: &mut [u32], i: usize, m: SoundMemory)
 
 // Only what a stage of this kind remembers.
 #[tactic(auto, unfolding(stage_words::specs::Layout::held_at, stage_words::specs::Layout::held_words))]
-pub fn put_held_at(w: &mut [u32], i: usize, kind: StageKind, m: SoundMemory)
-    requires { (i < 8) × (152 ≤ length w.old) }
+pub fn put_held_at(w: &mut Words, i: usize, kind: StageKind, m: SoundMemory)
+    requires { i < 8 }
     ensures { (w.new ≡ sets w.old (8 + 18 * i + held_at kind) (held_words kind m)) × HeldBy kind m }
 {
     match kind {
@@ -87,16 +74,16 @@ pub fn put_held_at(w: &mut [u32], i: usize, kind: StageKind, m: SoundMemory)
     }
 }
 
-fn put_filter_at(w: &mut [u32], i: usize, m: FilterMemory)
-    requires { (i < 8) × (152 ≤ length w.old) }
+fn put_filter_at(w: &mut Words, i: usize, m: FilterMemory)
+    requires { i < 8 }
     ensures { (w.new ≡ sets w.old (8 + 18 * i + 7) (filter_words m)) × HeldFilter m }
 {
     let place = 8 + 18 * i + 7;
     w[place..place + 8].copy_from_slice(&stage_words::filter_words(m));
 }
 
-fn put_state_at(w: &mut [u32], i: usize, s: ResamplerState)
-    requires { (i < 8) × (152 ≤ length w.old) }
+fn put_state_at(w: &mut Words, i: usize, s: ResamplerState)
+    requires { i < 8 }
     ensures { (w.new ≡ sets w.old (8 + 18 * i + 15) (state_words s)) × TwoSamples s.last }
 {
     let place = 8 + 18 * i + 15;
@@ -105,6 +92,7 @@ fn put_state_at(w: &mut [u32], i: usize, s: ResamplerState)
 
 // ---- the chain
 // The counter in the words i and i + 1.
+// Kept: two words put together by hand, and parted in `put_counter`: no method does it with words of 32 bits.
 pub fn counter_at(w: &[u32], i: usize) -> u64
     requires { i + 1 < length w.now }
     ensures { result ≡ counter_at w.now i }
@@ -113,15 +101,13 @@ pub fn counter_at(w: &[u32], i: usize) -> u64
 }
 
 // How many stages are in use.
-pub fn count_of(w: &[u32]) -> usize
-    requires { 152 ≤ length w.now }
+pub fn count_of(w: &Words) -> usize
     ensures { result ≡ word w.now 0 }
 {
     w[0] as usize
 }
 
-pub fn format_of(w: &[u32]) -> PcmFormat
-    requires { 152 ≤ length w.now }
+pub fn format_of(w: &Words) -> PcmFormat
     ensures { result ≡ format_of w.now }
 {
     PcmFormat {
@@ -131,8 +117,7 @@ pub fn format_of(w: &[u32]) -> PcmFormat
 }
 
 // Kept: a `for` over stages not in use in place of `std::array::from_fn`, of which the proof did not close.
-fn stages_of(w: &[u32]) -> [Stage; 8]
-    requires { 152 ≤ length w.now }
+fn stages_of(w: &Words) -> [Stage; 8]
     ensures { result ≡ (chain_at w.now).stages }
 {
     let mut stages = [Stage::new(StageKind::MonoToStereo); 8];
@@ -142,8 +127,7 @@ fn stages_of(w: &[u32]) -> [Stage; 8]
     stages
 }
 
-fn chain_at(w: &[u32]) -> Pipeline
-    requires { 152 ≤ length w.now }
+fn chain_at(w: &Words) -> Pipeline
     ensures { (result ≡ chain_at w.now) × All Small result.stages }
 {
     Pipeline {
@@ -155,18 +139,22 @@ fn chain_at(w: &[u32]) -> Pipeline
     }
 }
 
+// Kept: a range in place of a kind: `recipe::Kind` is made of 16 bits, and here nothing would read it.
 fn kind_known(number: u32) -> bool
     ensures { result ≡ of_stage number }
 {
     (1..=6).contains(&number)
 }
 
-// Are the kinds of the first `count` stages such as a recipe knows?
+// Are there at most eight stages in use, each of a kind that a recipe knows?
 #[tactic(auto, using(crate::proofs::Chains::each_known, crate::proofs::Chains::some_unknown))]
-fn kinds_known(w: &[u32], count: usize) -> bool
-    requires { (count ≤ 8) × (152 ≤ length w.now) }
-    ensures { result ≡ kinds_known w.now 0 count }
+fn kinds_known(w: &Words) -> bool
+    ensures { result ≡ (leb (word w.now 0) 8 && kinds_known w.now 0 (word w.now 0)) }
 {
+    let count = count_of(w);
+    if count > 8 {
+        return false;
+    }
     for i in 0..count {
         if !kind_known(w[8 + 18 * i]) {
             return false;
@@ -175,12 +163,14 @@ fn kinds_known(w: &[u32], count: usize) -> bool
     true
 }
 
-// Do the words stand for a chain?
-#[tactic(auto, unfolding(crate::specs::Layout::stands))]
+// Do the words stand for a chain? Too few of them don't.
 pub fn stand(w: &[u32]) -> bool
     ensures { result ≡ stands w.now }
 {
-    w.len() >= CHAIN_WORDS && count_of(w) <= 8 && kinds_known(w, count_of(w))
+    match w.first_chunk() {
+        Some(words) => kinds_known(words),
+        None => false,
+    }
 }
 
 // What every call refuses with 1.
@@ -201,15 +191,18 @@ fn no_chain() -> Pipeline
 }
 
 // The chain that the words stand for; where they stand for none, one that every call refuses with 1.
-#[tactic(auto, unfolding(crate::specs::Layout::chain_of_words), using(crate::specs::laws::Chains::stands_long, crate::proofs::Chains::no_chain_small))]
+// Kept: a chain in place of an `Option`, which is no plainer: every call refuses that chain with 1, so one definition serves all calls on words.
 pub fn chain_of(w: &[u32]) -> Pipeline
     ensures { (result ≡ chain_of_words w.now) × All Small result.stages }
 {
-    if stand(w) { chain_at(w) } else { no_chain() }
+    match w.first_chunk() {
+        Some(words) if stand(words) => chain_at(words),
+        _ => no_chain(),
+    }
 }
 
-fn put_counter(w: &mut [u32], i: usize, n: u64)
-    requires { i + 1 < length w.old }
+fn put_counter(w: &mut Words, i: usize, n: u64)
+    requires { i + 1 < 152 }
     ensures { w.new ≡ sets w.old i (n % 2 ^ 32 ∷ n / 2 ^ 32 ∷ []) }
 {
     w[i] = (n % 4294967296) as u32;
@@ -217,8 +210,7 @@ fn put_counter(w: &mut [u32], i: usize, n: u64)
 }
 
 // Both counters; the rest of the chain stays.
-pub fn put_counters(w: &mut [u32], blocks: u64, empty_blocks: u64)
-    requires { 152 ≤ length w.old }
+pub fn put_counters(w: &mut Words, blocks: u64, empty_blocks: u64)
     ensures { w.new ≡ sets w.old 3 (counter_words blocks empty_blocks) }
 {
     put_counter(w, 3, blocks);
@@ -226,8 +218,7 @@ pub fn put_counters(w: &mut [u32], blocks: u64, empty_blocks: u64)
 }
 
 #[tactic(auto, unfolding(crate::specs::Layout::head_words))]
-fn put_head(w: &mut [u32], chain: Pipeline)
-    requires { 152 ≤ length w.old }
+fn put_head(w: &mut Words, chain: Pipeline)
     ensures { w.new ≡ sets w.old 0 (head_words chain) }
 {
     w[0] = (chain.count % 4294967296) as u32;
@@ -238,8 +229,7 @@ fn put_head(w: &mut [u32], chain: Pipeline)
 }
 
 // The chain at the front of the words; words past it stay.
-pub fn put_chain(w: &mut [u32], chain: Pipeline)
-    requires { 152 ≤ length w.old }
+pub fn put_chain(w: &mut Words, chain: Pipeline)
     ensures { (w.new ≡ written (words_of chain) w.old) × All HeldStage chain.stages }
 {
     put_head(w, chain);
@@ -250,16 +240,16 @@ pub fn put_chain(w: &mut [u32], chain: Pipeline)
 
 // The memories of the stages in use and both counters, all that a block or a reset alters; every other word stays.
 #[tactic(auto, unfolding(crate::specs::Kept::with_sound))]
-pub fn put_sound(w: &mut [u32], chain: Pipeline)
-    requires { (chain.count ≤ 8) × (152 ≤ length w.old) }
-    ensures { (w.new ≡ with_sound w.old (stages_of chain) chain.blocks chain.empty_blocks) × All HeldMemory (stages_of chain) }
+pub fn put_sound(w: &mut Words, chain: Pipeline)
+    requires { chain.count ≤ 8 }
+    ensures { (w.new ≡ sound_words w.old chain) × All HeldMemory (stages_of chain) }
 {
     put_memories(w, &chain.stages[..chain.count]);
     put_counters(w, chain.blocks, chain.empty_blocks);
 }
 
-fn put_memories(w: &mut [u32], stages: &[Stage])
-    requires { (length stages.now ≤ 8) × (152 ≤ length w.old) }
+fn put_memories(w: &mut Words, stages: &[Stage])
+    requires { length stages.now ≤ 8 }
     ensures { (w.new ≡ kept_words w.old 0 stages.now) × All HeldMemory stages.now }
 {
     for (i, s) in stages.iter().enumerate() {

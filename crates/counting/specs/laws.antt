@@ -1,3 +1,2 @@
 pub mod Counting
 pub mod Limits
-pub mod Parts

@@ -1,22 +1,8 @@
 // How many samples have a property, such as to be held back (document 02, Q-2).
 #![tactic(auto)]
 
-ghost use Rattle.std.specs.Prelude.{◌≡◌, ◌+◌, ◌-◌, ◌≤◌, ◌<◌, Bool, List, ℕ, ℤ, min, length, take};
-ghost use Rattle.counting.specs.Counting.{one, count_of, Tells};
-
-// 1 for a sample that is counted.
-pub fn one(counted: bool) -> usize
-    ensures { result ≡ one counted }
-{
-    usize::from(counted)
-}
-
-// The lesser of the two.
-pub fn least(a: usize, b: usize) -> usize
-    ensures { result ≡ min a b }
-{
-    a.min(b)
-}
+ghost use Rattle.std.specs.Prelude.{◌≡◌, ◌+◌, ◌-◌, ◌≤◌, ◌<◌, Bool, List, ℕ, ℤ, length, take};
+ghost use Rattle.counting.specs.Counting.{count_of, Tells};
 
 // A count within a span fits 16 bits, so that the compiler takes eight samples at a time.
 const SPAN: usize = 32768;

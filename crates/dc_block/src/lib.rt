@@ -43,8 +43,8 @@ impl DcBlock {
         DcBlock { corner, r: 0.0 }
     }
 
-    #[tactic(auto, unfolding(crate::specs::DcBlock::pole_answer, crate::specs::DcBlock::pole_verdict))]
     // The pole for a rate, refused where the rate is not within its limit.
+    #[tactic(auto, unfolding(crate::specs::DcBlock::pole_answer, crate::specs::DcBlock::pole_verdict))]
     pub fn pole(corner: f32, rate: u32) -> Result<f32, Error>
         ensures value { result ≡ pole_answer corner rate }
         ensures told { pole_told result ≡ pole_valued (pole_verdict rate) (pole_of corner rate) }
@@ -67,6 +67,7 @@ impl DcBlock {
     }
 
     // Filters the whole frames of `input` into the front of `out`; the memory goes in and comes back, beside how many samples were held back.
+    // Kept: a method of each filter over the shared loop: its promise names the filter's own recurrence.
     pub fn process(
         self,
         input: &[u8],

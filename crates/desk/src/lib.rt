@@ -1,7 +1,7 @@
 // What the programs at the desk take (document 02, Q-4 and Q-7).
 #![tactic(auto)]
 
-ghost use mathlib.Core.Path.{◌≡◌};
+ghost use Rattle.std.specs.Prelude.{◌≡◌};
 ghost use Rattle.desk.specs.Desk.{desk_open};
 
 use pcm::{Error, PcmFormat};

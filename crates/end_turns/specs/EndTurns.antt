@@ -1,6 +1,7 @@
 -- The turn of a stage that ends (document 02, Q-1): what it asks of the bytes that arrive and of its half, and what it delivers. Definitions only.
-use Rattle.std.specs.Prelude.{◌≡◌, true, List, ℕ, ◌*◌, ◌/◌, ◌%◌, ◌≤◌, ◌<◌, length}
+use Rattle.std.specs.Prelude.{◌≡◌, true, List, ℕ, ◌*◌, ◌/◌, ◌%◌, ◌≤◌, length}
 use Rattle.pcm.specs.declared.PcmFormat.{PcmFormat}
+use Rattle.pcm.specs.Formats.{OneOrTwo}
 use Rattle.pcm.specs.Frames.{Frame, FramesOf, bytes_of, written}
 use Rattle.stage.specs.declared.Stage.{Stage}
 use Rattle.stage.specs.Stages.{stage_clipped, format_after}
@@ -15,7 +16,7 @@ pub record Fronted (fs : List Frame) (before after : List ℕ) (bytes : ℕ) : T
 -- whole frames of one or two channels to read, or none, in a format that suits the stage, and room for what it delivers
 pub record ServedToEnd (f : PcmFormat) (s : Stage) (source target : List ℕ) : Type 0 where
   pub suit : stage_suits f s.kind s.memory ≡ true
-  pub channels : (0 < f.channels) × (f.channels ≤ 2)
+  pub channels : OneOrTwo f.channels
   pub whole : length source % (f.channels * 2) ≡ 0
   pub room : frames_at_end s.kind s.memory (length source / (f.channels * 2)) * ((format_after f s.kind).channels * 2) ≤ length target
 

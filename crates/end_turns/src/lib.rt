@@ -2,6 +2,7 @@
 #![tactic(auto)]
 
 ghost use Rattle.std.specs.Prelude.{[], ◌∷◌, ◌*◌, ◌≤◌, ◌<◌, length, take};
+ghost use Rattle.pcm.specs.Formats.{OneOrTwo};
 ghost use Rattle.pcm.specs.Frames.{FramesOf, frames_of};
 ghost use Rattle.turns.specs.Turns.{Makes};
 ghost use Rattle.ending.specs.ResamplerEnd.{resampler_end};
@@ -30,7 +31,7 @@ fn arrived(format: PcmFormat, s: Stage, input: &[u8], out: &mut [u8]) -> Applied
 
 // The first samples of a frame to the front of `out`: how many bytes.
 fn put_frame(last: [i16; 2], channels: usize, out: &mut [u8]) -> usize
-    requires { ((0 < channels) × (channels ≤ 2)) × (channels * 2 ≤ length out.old) }
+    requires { OneOrTwo channels × (channels * 2 ≤ length out.old) }
     ensures { Fronted (take channels last ∷ []) out.old out.new result }
 {
     let [left, right] = last;
@@ -44,7 +45,7 @@ fn put_frame(last: [i16; 2], channels: usize, out: &mut [u8]) -> usize
 
 // A resampler's frame held, where its rates are unequal and the next output falls on it, at the front of `out`: how many bytes.
 fn put_held(r: LinearResampler, s: ResamplerState, channels: usize, out: &mut [u8]) -> usize
-    requires { ((0 < channels) × (channels ≤ 2)) × (length (resampler_end channels r s) * (channels * 2) ≤ length out.old) }
+    requires { OneOrTwo channels × (length (resampler_end channels r s) * (channels * 2) ≤ length out.old) }
     ensures { Fronted (resampler_end channels r s) out.old out.new result }
 {
     if r.in_rate == r.out_rate || !s.primed || s.phase != 0 {
@@ -55,7 +56,7 @@ fn put_held(r: LinearResampler, s: ResamplerState, channels: usize, out: &mut [u
 
 // What a stage adds at its end, at the front of `out`: how many bytes.
 fn put_last(channels: usize, kind: StageKind, memory: SoundMemory, out: &mut [u8]) -> usize
-    requires { ((0 < channels) × (channels ≤ 2)) × (length (last_of channels kind memory) * (channels * 2) ≤ length out.old) }
+    requires { OneOrTwo channels × (length (last_of channels kind memory) * (channels * 2) ≤ length out.old) }
     ensures { Fronted (last_of channels kind memory) out.old out.new result × FramesOf channels (last_of channels kind memory) }
 {
     match kind {

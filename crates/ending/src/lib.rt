@@ -2,11 +2,11 @@
 #![tactic(auto)]
 
 ghost use Rattle.std.specs.Prelude.{◌≡◌, ◌+◌, ◌*◌, ◌≤◌, ◌<◌, ◌^◌};
-ghost use Rattle.stage.specs.Rooms.{Bounded};
+ghost use Rattle.stage.specs.Rooms.{Bounded, FewFrames};
 ghost use Rattle.ending.specs.ResamplerEnd.{up_to, end_frame_count};
 ghost use Rattle.ending.specs.StageEnd.{frames_at_end};
 
-use rates::LinearResampler;
+use rates::{LinearResampler, ResamplerState};
 use stage::{Stage, StageKind};
 
 // How many of p, p + step, p + 2 * step, .. lie at d or below it.
@@ -22,15 +22,15 @@ fn up_to(step: u64, p: u64, d: u64) -> usize
 
 // How many frames a resampler makes of so many and at its end, from the phase alone: exact, at equal rates also.
 #[tactic(auto, unfolding(crate::specs::ResamplerEnd::end_frame_count, crate::specs::ResamplerEnd::end_count))]
-fn resampled_to_end(r: LinearResampler, primed: bool, phase: u64, frames: usize) -> usize
+fn resampled_to_end(r: LinearResampler, state: ResamplerState, frames: usize) -> usize
     requires { (0 < r.in_r) × (frames * r.out_r + r.in_r < 2 ^ 64) }
-    ensures { result ≡ end_frame_count r primed phase frames }
+    ensures { result ≡ end_frame_count r state.primed state.phase frames }
 {
     if r.in_rate == r.out_rate {
         return frames;
     }
-    if primed {
-        return up_to(r.in_r, phase, (frames as u64) * r.out_r);
+    if state.primed {
+        return up_to(r.in_r, state.phase, (frames as u64) * r.out_r);
     }
     if frames == 0 {
         return 0;
@@ -41,12 +41,12 @@ fn resampled_to_end(r: LinearResampler, primed: bool, phase: u64, frames: usize)
 // How many frames a stage delivers of so many and at its end, from the phase alone.
 #[tactic(auto, unfolding(crate::specs::StageEnd::frames_at_end))]
 pub fn frames_at_end(stage: Stage, frames: usize) -> usize
-    requires { (frames ≤ 2400000000000) × Bounded stage.kind }
+    requires { FewFrames frames × Bounded stage.kind }
     ensures { result ≡ frames_at_end stage.kind stage.memory frames }
 {
     let state = stage.memory.resampler;
     match stage.kind {
-        StageKind::Resample(r) => resampled_to_end(r, state.primed, state.phase, frames),
+        StageKind::Resample(r) => resampled_to_end(r, state, frames),
         _ => frames,
     }
 }

@@ -38,6 +38,7 @@ fn open_and_fill<R: Files>(rt: &R, path: &str, buf: &mut [u8]) -> io::Result<usi
 }
 
 // The first bytes of a file, as many as buf holds, and how many those are. None where it could not be read, and standard error says why.
+// Kept: a count of the bytes in buf, as the library's `read` answers.
 pub fn read_file<R: Files + Eprint>(rt: &R, path: &[u8], buf: &mut [u8]) -> Option<usize>
     ensures { IfSome result (λ n. IsPrefixLen n buf.new) }
 {

@@ -1,11 +1,12 @@
 -- A filter on frames, each channel by its own memory (document 01, 'The whole stream'). A filter is its `tick`: one channel's taps
 -- after a sample. Definitions only.
-use Rattle.std.specs.Prelude.{◌≡◌, List, [], ◌∷◌, map, ℕ, ◌+◌, ◌*◌, ◌%◌, ◌≤◌, ◌<◌, ℤ, length, Float}
+use Rattle.std.specs.Prelude.{◌≡◌, List, [], ◌∷◌, map, ℕ, ◌+◌, ◌*◌, ◌%◌, ◌≤◌, ℤ, length, Float}
 use Rattle.filters.specs.declared.Taps.{Taps}
 use Rattle.filters.specs.declared.FilterMemory.{FilterMemory}
 use Rattle.filters.specs.declared.Filtered.{Filtered}
 use Rattle.floats.specs.Operations.{plus_zero}
 use Rattle.floats.specs.Rounding.{rounded16, clipped}
+use Rattle.pcm.specs.Formats.{OneOrTwo}
 use Rattle.pcm.specs.Frames.{Frame, frames_of, bytes_of, written}
 use Rattle.counting.specs.Counting.{one}
 
@@ -73,10 +74,9 @@ module _ (tick : Taps → ℤ → Taps) where
 
 -- ---- a block of bytes
 -- what a call on a block takes: one or two channels, whole frames, and room
-pub record FilterBlock (channels : ℕ) (input out : List ℕ) : Type 0 where
-  pub at_least_one : 0 < channels
-  pub at_most_two : channels ≤ 2
-  pub whole : length input % (channels * 2) ≡ 0
+pub record FilterBlock (ch : ℕ) (input out : List ℕ) : Type 0 where
+  pub channels : OneOrTwo ch
+  pub whole : length input % (ch * 2) ≡ 0
   pub room : length input ≤ length out
 
 -- what it gives: the output at the buffer's front, the rest of the buffer as it was, the memory afterwards, and how many samples were held back

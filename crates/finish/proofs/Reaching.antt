@@ -3,34 +3,33 @@ use Rattle.std.specs.Prelude.{Ok}
 use mathlib.Core.Path.{◌≡◌, refl, sym, ap, ap₂, ◌∙◌, subst}
 use mathlib.Core.Bool.{true}
 use mathlib.Core.List.{List, [], ◌∷◌}
-use Prim.Native.Nat.{ℕ, ◌+◌, ◌*◌, ◌/◌, ◌%◌, ◌≤◌, ◌<◌}
+use Prim.Native.Nat.{ℕ, ◌+◌, ◌*◌, ◌/◌, ◌≤◌, ◌<◌}
 use native.Mathlib.Nat.{mul-div_cancel, mul-mod_left, zero-mul}
-use native.Mathlib.Decide.{dec_lt}
 use native.Mathlib.Numerals.{add-one}
 use native.Mathlib.Omega.{arith}
-use borrow.Author.Tests.{eq-eqb, ne_eqb}
 use lib.ListN.{length, take, drop, get_or, length-take}
 use lib.Seq.{drop-cons}
 use Rattle.std.proofs.Common.{drop_of_length-le}
 use Rattle.pcm.specs.declared.PcmFormat.{PcmFormat}
 use Rattle.pcm.specs.Frames.{Frame, FramesOf, frames_of, bytes_of}
-use Rattle.pcm.specs.laws.Frames.{length_bytes, frames_bytes, frames-nil, front_written}
+use Rattle.pcm.specs.laws.Frames.{length_bytes, frames_bytes, frames-nil}
 use Rattle.stage.specs.declared.Stage.{Stage}
 use Rattle.stage.specs.Stages.{stage_clipped, format_after}
 use Rattle.stage.specs.Rooms.{stage_suits}
 use Rattle.stage.specs.laws.Rooms.{channels_after, suits_bounded}
 use Rattle.ending.specs.StageEnd.{stage_end, frames_at_end}
-use Rattle.end_turns.specs.EndTurns.{ServedToEnd, ServesToEnd}
+use Rattle.end_turns.specs.EndTurns.{ServedToEnd}
 use Rattle.ending.specs.laws.StageEnd.{stage_end_count, end_wanted_holds}
 use Rattle.pipeline.specs.declared.Pipeline.{Pipeline}
-use Rattle.turns.specs.Turns.{Halves, target_at}
+use Rattle.pipeline.specs.Reset.{format_leaving}
+use Rattle.turns.specs.Turns.{Halves, source_at, target_at, TurnAsks}
 use Rattle.block.specs.BlockCall.{put, suited, shorter}
 use Rattle.block.specs.laws.Steps.{drop_zero}
-use Rattle.block.specs.laws.Reaching.{Sized, put_sized, target_long}
+use Rattle.block.specs.laws.Reaching.{Sized, put_sized, target_long, next_source}
 use Rattle.block.specs.laws.Bounds.{suited_first, suited_rest, legal_parts}
 use Rattle.block.specs.laws.Clips.{Clips, clips_first, clips_fit, clips_next}
 use Rattle.finish.specs.FinishCall.{chain_end, end_clipped, room_at_end, end_verdict, ended_halves}
-use Rattle.finish.specs.Turns.{source_for, EndTurn, Finishes}
+use Rattle.finish.specs.Turns.{EndTurn, Finishes}
 use Rattle.finish.specs.laws.Stepping.{end_first, end_rest}
 
 -- before stage i + 1, which takes xs: `format` and `before` are the call's format and halves, and so many samples were held back
@@ -38,8 +37,8 @@ pub record EndReached (stages : List Stage) (count : ℕ) (format : PcmFormat) (
   pub xs : List Frame
   pub good : FramesOf f.channels xs
   pub channels : (0 < f.channels) × (f.channels ≤ 2)
-  pub source : frames_of f.channels (source_for i n h) ≡ xs
-  pub long : length (source_for i n h) ≡ length xs * (f.channels * 2)
+  pub source : frames_of f.channels (source_at i n [] h) ≡ xs
+  pub long : length (source_at i n [] h) ≡ length xs * (f.channels * 2)
   pub size : n ≡ length (bytes_of xs)
   pub within : n ≤ short
   pub suit : suited f (drop i (take count stages)) ≡ true
@@ -47,6 +46,7 @@ pub record EndReached (stages : List Stage) (count : ℕ) (format : PcmFormat) (
   pub sides : ended_halves 0 format (take count stages) [] before ≡ ended_halves i f (drop i (take count stages)) xs h
   pub makes : chain_end format (take count stages) [] ≡ chain_end f (drop i (take count stages)) xs
   pub clips : Clips count (end_clipped format (take count stages) []) format.rate (end_clipped f (drop i (take count stages)) xs) f (length xs) i clipped
+  pub form : format_leaving format (take count stages) ≡ format_leaving f (drop i (take count stages))
 
 -- ---- small laws
 module _ (f : PcmFormat) (s : Stage) (rest : List Stage) where
@@ -63,6 +63,14 @@ module _ (f : PcmFormat) (s : Stage) (rest : List Stage) where
   unfolding end_clipped
   end_clipped_cons xs = refl
 
+  leaving_cons : format_leaving f (s ∷ rest) ≡ format_leaving (format_after f s.kind) rest
+  unfolding format_leaving
+  leaving_cons = refl
+
+leaving_none : (f : PcmFormat) → format_leaving f [] ≡ f
+unfolding format_leaving
+leaving_none f = refl
+
 ended_none : (i : ℕ) (f : PcmFormat) (xs : List Frame) (h : Halves) → ended_halves i f [] xs h ≡ h
 unfolding ended_halves
 ended_none i f xs h = refl
@@ -74,42 +82,6 @@ chain_end_none f xs = refl
 end_clipped_none : (f : PcmFormat) (xs : List Frame) → end_clipped f [] xs ≡ 0
 unfolding end_clipped
 end_clipped_none f xs = refl
-
--- the next source is what was written
-next_source : (i n : ℕ) (out : List ℕ) (h : Halves) → n ≡ length out → source_for (i + 1) n (put i out h) ≡ out
-next_source i n out h e = go (dec_lt (i % 2) 1)
-  where
-    go : Dec (i % 2 < 1) → source_for (i + 1) n (put i out h) ≡ out
-    go (yes p) =
-        let q : (i + 1) % 2 ≡ 0 → ⊥ = λ r. omega arith in
-        let p : i % 2 ≡ 0 = omega arith in
-        rw (ne_eqb ((i + 1) % 2) 0 q, eq-eqb (i % 2) 0 p) (front_written out h.a n e)
-    go (no p) =
-        let q : (i + 1) % 2 ≡ 0 = omega arith in
-        let p : i % 2 ≡ 0 → ⊥ = λ r. omega arith in
-        rw (eq-eqb ((i + 1) % 2) 0 q, ne_eqb (i % 2) 0 p) (front_written out h.b n e)
-
--- ---- a turn, by the half that is read and the one that is written
-module _ (f : PcmFormat) (s : Stage) (i n : ℕ) (a b : List ℕ) where
-  abbrev Asks : Type 0
-  Asks = ServedToEnd f s (source_for i n (record { a = a; b = b })) (target_at i (record { a = a; b = b }))
-
-  abbrev Gives : ℕ → ℕ → List ℕ → List ℕ → Type 0
-  Gives len clipped a' b' = EndTurn f s (frames_of f.channels (source_for i n (record { a = a; b = b }))) i len clipped (record { a = a; b = b }) (record { a = a'; b = b' })
-
-  pub even_asks : i % 2 ≡ 0 → Asks → ServedToEnd f s (take n b) a
-  even_asks e w = rw (eq-eqb (i % 2) 0 e) at w
-
-  pub even_gives : (len clipped : ℕ) (a' : List ℕ) → i % 2 ≡ 0 → ServesToEnd f s (frames_of f.channels (take n b)) len clipped a a' → Gives len clipped a' b
-  even_gives len clipped a' e r =
-      rw (eq-eqb (i % 2) 0 e) (record { size = r.fronted.size; frames = r.frames; holds = r.holds; gives = rw (eq-eqb (i % 2) 0 e) (ap (λ (l : List ℕ). record { a = l; b = b }) r.fronted.bytes_are) })
-
-  pub odd_asks : (i % 2 ≡ 0 → ⊥) → Asks → ServedToEnd f s (take n a) b
-  odd_asks e w = rw (ne_eqb (i % 2) 0 e) at w
-
-  pub odd_gives : (len clipped : ℕ) (b' : List ℕ) → (i % 2 ≡ 0 → ⊥) → ServesToEnd f s (frames_of f.channels (take n a)) len clipped b b' → Gives len clipped a b'
-  odd_gives len clipped b' e r =
-      rw (ne_eqb (i % 2) 0 e) (record { size = r.fronted.size; frames = r.frames; holds = r.holds; gives = rw (ne_eqb (i % 2) 0 e) (ap (λ (l : List ℕ). record { a = a; b = l }) r.fronted.bytes_are) })
 
 -- ---- one stage
 module _ (stages : List Stage) (count : ℕ) (format : PcmFormat) (before : Halves) (short : ℕ) (f : PcmFormat) (n i : ℕ) (h : Halves) (clipped : ℕ) (d : Stage)
@@ -141,10 +113,10 @@ module _ (stages : List Stage) (count : ℕ) (format : PcmFormat) (before : Halv
   unfolding room_at_end
   room_here = end_first f s rest (length r.xs) short room_all
 
-  frames_here : length (source_for i n h) / (f.channels * 2) ≡ length r.xs
+  frames_here : length (source_at i n [] h) / (f.channels * 2) ≡ length r.xs
   frames_here = ap (λ (k : ℕ). k / (f.channels * 2)) r.long ∙ mul-div_cancel (length r.xs) (let p : 0 < f.channels * 2 = omega (arith, r.channels.0) in p)
 
-  pub served : ServedToEnd f s (source_for i n h) (target_at i h)
+  served : ServedToEnd f s (source_at i n [] h) (target_at i h)
   served = record {
     suit = suit_here;
     channels = r.channels;
@@ -152,12 +124,16 @@ module _ (stages : List Stage) (count : ℕ) (format : PcmFormat) (before : Halv
     room = rw frames_here (target_long i h (frames_at_end s.kind s.memory (length r.xs) * ((format_after f s.kind).channels * 2)) (omega (arith, room_here)) (omega (arith, room_here)));
   }
 
+  -- what its turn asks
+  pub asks : TurnAsks i n [] h (ServedToEnd f s)
+  asks = record { reads = r.long ∙ sym (length_bytes f.channels r.xs r.good) ∙ sym r.size; asks = served }
+
   -- the stage has had its turn
   -- the sum of what was held back fits
-  pub sum_fits : {held : ℕ} → held ≡ stage_clipped s (frames_of f.channels (source_for i n h)) → clipped + held ≤ 38400000000000
+  pub sum_fits : {held : ℕ} → held ≡ stage_clipped s (frames_of f.channels (source_at i n [] h)) → clipped + held ≤ 38400000000000
   sum_fits q = clips_fit count _ format.rate _ f _ i clipped r.clips more top s r.xs refl r.good r.channels.1 (q ∙ ap (stage_clipped s) r.source)
 
-  module _ (m held : ℕ) (g : PcmFormat) (h' : Halves) (t : EndTurn f s (frames_of f.channels (source_for i n h)) i m held h h') (e : g ≡ format_after f s.kind) where
+  module _ (m held : ℕ) (g : PcmFormat) (h' : Halves) (t : EndTurn f s (frames_of f.channels (source_at i n [] h)) i m held h h') (e : g ≡ format_after f s.kind) where
     abbrev out : List Frame
     out = stage_end f.channels s r.xs
 
@@ -198,7 +174,7 @@ module _ (stages : List Stage) (count : ℕ) (format : PcmFormat) (before : Halv
 
     pub next_reached : EndReached stages count format before short g m (i + 1) h' (clipped + held)
     next_reached =
-        let src : source_for (i + 1) m h' ≡ bytes_of out = ap (source_for (i + 1) m) halves_are ∙ next_source i m (bytes_of out) h size_is in
+        let src : source_at (i + 1) m [] h' ≡ bytes_of out = ap (source_at (i + 1) m []) halves_are ∙ next_source i m [] (bytes_of out) h size_is in
         record {
           xs = out;
           good = good_out;
@@ -213,6 +189,7 @@ module _ (stages : List Stage) (count : ℕ) (format : PcmFormat) (before : Halv
               ∙ ap₂ (λ (k : PcmFormat) (x : Halves). ended_halves (i + 1) k rest out x) (sym e) (sym halves_are);
           makes = r.makes ∙ ap (λ (l : List Stage). chain_end f l r.xs) ahead ∙ chain_end_cons f s rest r.xs ∙ ap (λ (k : PcmFormat). chain_end k rest out) (sym e);
           clips = clips_out;
+          form = r.form ∙ ap (format_leaving f) ahead ∙ leaving_cons f s rest ∙ ap (λ (k : PcmFormat). format_leaving k rest) (sym e);
         }
 
 -- ---- past the last stage
@@ -226,6 +203,9 @@ module _ (stages : List Stage) (count : ℕ) (format : PcmFormat) (before : Halv
 
   pub ended_clipped : clipped ≡ end_clipped format (take count stages) []
   ended_clipped = omega (arith, r.clips.is, ap (λ (l : List Stage). end_clipped f l r.xs) over, end_clipped_none f r.xs)
+
+  pub ended_format : f ≡ format_leaving format (take count stages)
+  ended_format = sym (r.form ∙ ap (format_leaving f) over ∙ leaving_none f)
 
   pub ended_halves_lem : h ≡ ended_halves 0 format (take count stages) [] before
   ended_halves_lem = sym (r.sides ∙ ap (λ (l : List Stage). ended_halves i f l r.xs h) over ∙ ended_none i f r.xs h)
@@ -249,5 +229,6 @@ begun c a b w =
       room = rw whole w.room;
       sides = rw whole;
       makes = rw whole;
+      form = rw whole;
       clips = rw whole (clips_first c.count _ c.format.rate c.format 0 ok.rate refl (omega arith));
     }

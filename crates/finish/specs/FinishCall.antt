@@ -1,5 +1,6 @@
 -- The finish call (document 02, Q-1 and Q-2): from a chain and two halves to all that is there afterwards. Definitions only.
-use Rattle.std.specs.Prelude.{List, [], ◌∷◌, ℕ, suc, ◌+◌, ◌*◌, leb, length, Ok, Err}
+use Rattle.std.specs.Prelude.{List, [], ◌∷◌, ℕ, suc, ◌+◌, ◌*◌, leb, length, Ok, Err, Result}
+use Rattle.pcm.specs.declared.Error.{Error}
 use Rattle.pcm.specs.declared.PcmFormat.{PcmFormat}
 use Rattle.pcm.specs.declared.Error.TheVariants.{InvalidFormat, BufferTooSmall}
 use Rattle.pcm.specs.Refusals.{ask, Verdict}
@@ -12,8 +13,7 @@ use Rattle.pipeline.specs.WritingBack.{stages_of}
 use Rattle.block.specs.BlockCall.{legal, put, shorter}
 use Rattle.turns.specs.Turns.{Halves}
 use Rattle.answers.specs.Answers.{last_half}
-use Rattle.answers.specs.declared.FinishAnswer.{FinishAnswer}
-use Rattle.answers.specs.declared.FinishAnswer.TheVariants as answer
+use Rattle.answers.specs.declared.Answer.{Answer}
 use Rattle.answers.specs.FinishAnswers.{finish_answer}
 use Rattle.ending.specs.StageEnd.{stage_end, frames_at_end}
 
@@ -53,7 +53,7 @@ ended_halves i f (s ∷ rest) xs h = ended_halves (suc i) (format_after f s.kind
 -- what the call leaves behind
 pub record FinishResult : Type 0 where
   pub chain : Pipeline
-  pub answer : FinishAnswer
+  pub answer : Result (Answer Unit) Error
   pub a : List ℕ
   pub b : List ℕ
 
@@ -69,7 +69,7 @@ finish_clipped c = end_clipped c.format (stages_of c) []
 unfoldable pub finished : Pipeline → Halves → FinishResult
 finished c h = record {
   chain = reset_call c;
-  answer = finish_answer (format_leaving c.format (stages_of c)) (last_half c.count) (finish_bytes c) (finish_clipped c);
+  answer = Ok (finish_answer (format_leaving c.format (stages_of c)) (last_half c.count) (finish_bytes c) (finish_clipped c));
   a = (ended_halves 0 c.format (stages_of c) [] h).a;
   b = (ended_halves 0 c.format (stages_of c) [] h).b;
 }
@@ -77,7 +77,7 @@ finished c h = record {
 -- a refusal alters nothing
 abbrev pub finish_concluded : Verdict → Pipeline → Halves → FinishResult
 finish_concluded (Ok _) c h = finished c h
-finish_concluded (Err e) c h = record { chain = c; answer = answer.Refused e; a = h.a; b = h.b }
+finish_concluded (Err e) c h = record { chain = c; answer = Err e; a = h.a; b = h.b }
 
 -- the finish call: from the chain and the two halves to all that is there afterwards
 unfoldable pub finish_call : Pipeline → List ℕ → List ℕ → FinishResult

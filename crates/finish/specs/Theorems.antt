@@ -11,7 +11,7 @@ use Rattle.stage.specs.Stages.{kinds_of, stage_as_opened, stage_clear}
 use Rattle.pipeline.specs.declared.Pipeline.{Pipeline}
 use Rattle.pipeline.specs.Reset.{reset_call}
 use Rattle.pipeline.specs.WritingBack.{stages_of}
-use Rattle.answers.specs.declared.FinishAnswer.TheVariants as answer
+use Rattle.answers.specs.declared.Answer.TheVariants as answer
 use Rattle.turns.specs.Turns.{Halves, halves}
 use Rattle.block.specs.BlockCall.{legal, suited, shorter}
 use Rattle.block.specs.laws.Bounds.{legal_parts}
@@ -46,6 +46,6 @@ module _ (c : Pipeline) (lawful : legal c ≡ true) (silent : stages_of c ≡ ma
       (ap (λ (l : List Stage). let d : Pipeline = record { stages = l; count = c.count; format = c.format; blocks = c.blocks; empty_blocks = c.empty_blocks } in d)
       (ap (λ (l : List Stage). l ++ drop c.count c.stages) (sym silent) ∙ take-append-drop c.count c.stages))
 
-  pub nothing_due : (a b : List ℕ) → finish_call c a b ≡ record { chain = c; answer = answer.NothingYet 0; a = a; b = b }
+  pub nothing_due : (a b : List ℕ) → finish_call c a b ≡ record { chain = c; answer = Ok (answer.NothingYet 0); a = a; b = b }
   unfolding finish_call finished
   nothing_due a b = rw (accepted (shorter a b), same_chain, no_bytes, none_clipped, same_halves (halves a b))

@@ -1,3 +1,4 @@
 pub mod Beforehand
 pub mod ChainEnd
+pub mod Heads
 pub mod Stepping

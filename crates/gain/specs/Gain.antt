@@ -1,5 +1,5 @@
 -- gain.rs: a Q15 factor, and a sample times it (document 01). Assumes nothing.
-use Rattle.std.specs.Prelude.{Bool, false, List, map, ℕ, leb, ℤ, pos, nat_abs, ◌+ℤ◌, ◌*ℤ◌, Float}
+use Rattle.std.specs.Prelude.{◌≡◌, Bool, false, List, map, ℕ, ◌%◌, ◌≤◌, leb, length, ℤ, pos, nat_abs, ◌+ℤ◌, ◌*ℤ◌, Float}
 use Rattle.std.specs.Float.{fin, binary32}
 use Rattle.std.specs.Float.Ieee.{mul}
 use Rattle.pcm.specs.Integers.{−, floor_div}
@@ -29,3 +29,9 @@ scaled q15 x = held16 (floor_div (x *ℤ q15 +ℤ pos 16384) 32768)
 -- the same of each sample of a block
 unfoldable pub scaled_bytes : ℤ → List ℕ → List ℕ
 scaled_bytes q15 bytes = encode (map (scaled q15) (decode bytes))
+
+-- what a call on a block takes: whole samples, room, and a factor within its limit
+pub record GainBlock (q15 : ℤ) (input out : List ℕ) : Type 0 where
+  pub whole : length input % 2 ≡ 0
+  pub room : length input ≤ length out
+  pub factor : nat_abs q15 ≤ 33554432

@@ -1,13 +1,13 @@
 // `Gain`: fixed-point Q15 gain with rounding and saturation (elements/gain.rs).
 #![tactic(auto)]
 
-ghost use Rattle.std.specs.Prelude.{◌≡◌, min, ◌≤◌, ◌%◌, pos, neg_ℤ, nat_abs, ◌-ℤ◌, ◌*ℤ◌, length};
+ghost use Rattle.std.specs.Prelude.{◌≡◌, min, ◌≤◌, ◌%◌, pos, neg_ℤ, nat_abs, ◌-ℤ◌, ◌*ℤ◌};
 ghost use Rattle.pcm.specs.Integers.{−, floor_div};
 ghost use Rattle.pcm.specs.Samples.{decode, held16, outside};
 ghost use Rattle.pcm.specs.Frames.{written};
 ghost use Rattle.counting.specs.Counting.{count_of};
 ghost use Rattle.gain.specs.Clipping.{clipped_in};
-ghost use Rattle.gain.specs.Gain.{factor_allowed, held_factor, linear_factor, scaled, scaled_bytes, unity};
+ghost use Rattle.gain.specs.Gain.{GainBlock, factor_allowed, held_factor, linear_factor, scaled, scaled_bytes, unity};
 
 // A factor's greatest size, 1024.0.
 const LIMIT: i32 = 33554432;
@@ -60,7 +60,7 @@ impl Gain {
         self.q15
     }
 
-    // One sample.
+    // One sample, by any factor.
     pub fn apply(self, x: i16) -> i16
         ensures { result ≡ scaled self.q15 x }
     {
@@ -69,7 +69,7 @@ impl Gain {
 
     // Each sample of input, at the front of out; how many were held back.
     pub fn process(self, input: &[u8], out: &mut [u8]) -> usize
-        requires { (length input.now % 2 ≡ 0) × (length input.now ≤ length out.old) × (nat_abs self.q15 ≤ 33554432) }
+        requires { GainBlock self.q15 input.now out.old }
         ensures { (out.new ≡ written (scaled_bytes self.q15 input.now) out.old) × (result ≡ clipped_in self.q15 (decode input.now)) }
     {
         if self == Gain::UNITY {
@@ -129,7 +129,7 @@ fn scale(x: i16, q: i32) -> i16
 
 // Each sample of input by the factor, at the front of out.
 fn gain_samples(input: &[u8], out: &mut [u8], q: i32)
-    requires { (length input.now % 2 ≡ 0) × (length input.now ≤ length out.old) × (nat_abs q ≤ 33554432) }
+    requires { GainBlock q input.now out.old }
     ensures { out.new ≡ written (scaled_bytes q input.now) out.old }
 {
     pcm::write_samples(
@@ -149,7 +149,6 @@ fn outside(x: i16, lo: i16, hi: i16) -> bool
 
 // How many samples lie outside lo to hi.
 fn count_outside(s: &[u8], lo: i16, hi: i16) -> usize
-    requires { length s.now % 2 ≡ 0 }
     ensures { result ≡ count_of (outside lo hi) (decode s.now) }
 {
     counting::count_where(s.len() / 2, |k| outside(pcm::get_i16(s, 2 * k), lo, hi))
@@ -173,7 +172,7 @@ fn bottom(n: u32) -> i16
 // How many samples of input the factor holds back. A product above 1,073,725,439 rounds to more than 32,767, and one below
 // -1,073,758,208 to less than -32,768: a division each gives the samples between. From -32,767 to 32,768 there are no others.
 fn count_clipped(input: &[u8], q: i32) -> usize
-    requires { (length input.now % 2 ≡ 0) × (nat_abs q ≤ 33554432) }
+    requires { nat_abs q ≤ 33554432 }
     ensures { result ≡ clipped_in q (decode input.now) }
 {
     let p = q.unsigned_abs();

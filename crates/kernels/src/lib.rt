@@ -2,14 +2,14 @@
 // Gain, mix and filters answer how many samples they held back.
 #![tactic(auto)]
 
-ghost use Rattle.std.specs.Prelude.{◌≡◌, ◌*◌, ◌/◌, ◌%◌, ◌≤◌, nat_abs, length};
+ghost use Rattle.std.specs.Prelude.{◌≡◌, ◌*◌, ◌/◌, ◌%◌, ◌≤◌, length};
 ghost use Rattle.pcm.specs.Samples.{decode};
 ghost use Rattle.pcm.specs.Frames.{frames_of, bytes_of, written};
 ghost use Rattle.filters.specs.Filters.{FilterBlock, filtered, filter_clipped, taps_of, memory_at_rest};
 ghost use Rattle.dc_block.specs.DcBlock.{dc_tick};
 ghost use Rattle.biquad.specs.Recurrence.{biquad_tick};
 ghost use Rattle.gain.specs.Clipping.{clipped_in};
-ghost use Rattle.gain.specs.Gain.{scaled_bytes};
+ghost use Rattle.gain.specs.Gain.{GainBlock, scaled_bytes};
 ghost use Rattle.rates.specs.Rates.{resampler_of};
 ghost use Rattle.rates.specs.Answers.{new_told};
 ghost use Rattle.resample.specs.Stage.{Ready};
@@ -21,6 +21,7 @@ use cookbook::Coefficients;
 use dc_block::DcBlock;
 use filters::FilterMemory;
 use gain::Gain;
+use pcm::Error;
 use rates::{LinearResampler, ResamplerState};
 
 // `number` is 0 or the refusal's, which has no rates.
@@ -32,27 +33,36 @@ pub struct RatesResult {
     pub out_r: u64,
 }
 
-#[unsafe(no_mangle)]
-pub extern "C" fn new_resampler(in_rate: u32, out_rate: u32) -> RatesResult
-    ensures { result ≡ rates_result (new_told (resampler_of in_rate out_rate)) }
-{
-    match LinearResampler::new(in_rate, out_rate) {
-        Ok(r) => RatesResult {
-            number: 0,
-            in_r: r.in_r,
-            out_r: r.out_r,
-        },
-        Err(e) => RatesResult {
-            number: e.number(),
-            in_r: 0,
-            out_r: 0,
-        },
+impl From<Result<LinearResampler, Error>> for RatesResult {
+    ghost from_gives = { λ answer told. told ≡ rates_result (new_told answer) };
+
+    // Number and values of each case.
+    fn from(answer: Result<LinearResampler, Error>) -> RatesResult {
+        match answer {
+            Ok(r) => RatesResult {
+                number: 0,
+                in_r: r.in_r,
+                out_r: r.out_r,
+            },
+            Err(e) => RatesResult {
+                number: e.number(),
+                in_r: 0,
+                out_r: 0,
+            },
+        }
     }
 }
 
 #[unsafe(no_mangle)]
+pub extern "C" fn new_resampler(in_rate: u32, out_rate: u32) -> RatesResult
+    ensures { result ≡ rates_result (new_told (resampler_of in_rate out_rate)) }
+{
+    RatesResult::from(LinearResampler::new(in_rate, out_rate))
+}
+
+#[unsafe(no_mangle)]
 pub extern "C" fn gain_block(q15: i32, input: &[u8], out: &mut [u8]) -> usize
-    requires { (length input.now % 2 ≡ 0) × (length input.now ≤ length out.old) × (nat_abs q15 ≤ 33554432) }
+    requires { GainBlock q15 input.now out.old }
     ensures { (out.new ≡ written (scaled_bytes q15 input.now) out.old) × (result ≡ clipped_in q15 (decode input.now)) }
 {
     Gain { q15 }.process(input, out)

@@ -1,2 +1,3 @@
+mod Answered
+mod Cut
 mod Opened
-mod Words

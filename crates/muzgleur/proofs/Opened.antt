@@ -1,5 +1,7 @@
 -- Laws: a chain that was opened can be kept in words. Assumes nothing.
-use Rattle.std.specs.Prelude.{Ok, Err}
+use Rattle.std.specs.Prelude.{Ok, Err, Result}
+use borrow.Author.Tests.{le-leb}
+use Rattle.pcm.specs.declared.Error.{Error}
 use mathlib.Core.Path.{◌≡◌, refl, ◌∙◌, subst}
 use mathlib.Core.Bool.{Bool, true, false, cond}
 use mathlib.Core.List.{List, [], ◌∷◌}
@@ -7,7 +9,7 @@ use Prim.Native.Nat.{ℕ, zero, suc, ◌-◌, ◌≤◌, ◌<◌}
 use native.Mathlib.Omega.{arith}
 use lib.ListN.{length, replicate, length-append, length-replicate}
 use Rattle.pcm.specs.declared.PcmFormat.{PcmFormat}
-use Rattle.pcm.specs.Refusals.{Verdict}
+use Rattle.pcm.specs.Refusals.{refusal, Verdict}
 use Rattle.pcm.specs.Samples.{All}
 use Rattle.pcm.specs.Frames.{written}
 use Rattle.pcm.specs.laws.Frames.{all_append}
@@ -26,6 +28,8 @@ use Rattle.stage_words.specs.Storable.{HeldStage, SmallKind, Small}
 use Rattle.chain_words.specs.Layout.{words_of, chain_of_words}
 use Rattle.chain_words.specs.Storable.{Storable}
 use Rattle.chain_words.specs.Theorems.{written_stands}
+use Rattle.chain_words.specs.laws.Chains.{length_words}
+use Rattle.muzgleur.specs.Results.{open_outcome}
 
 -- ---- one stage
 small_kind : (f : PcmFormat) (r : Record) → settings_allowed r ≡ true → SmallKind (stage_kind_of f r)
@@ -93,6 +97,24 @@ module _ (f : PcmFormat) (channels : f.channels < 65536) where
       let small = small_opened 8 f bytes o.stages o.opens in
       rw o.chain_is (chain_storable o.stages few small (rw o.chain_is at held))
 
+  -- it has as many words as there are places for
+  opened_long : (ss : List Stage) → length ss ≤ 8 → length (words_of (chain_of f ss)) ≡ 152
+  unfolding chain_of
+  opened_long ss few = length_words (chain_of f ss) (length-append ss (replicate (8 - length ss) unused_stage) ∙ omega (arith, length-replicate (8 - length ss) unused_stage))
+
+  pub open_long : (bytes : List ℕ) (c : Pipeline) → open_call f bytes ≡ Ok c → length (words_of c) ≡ 152
+  open_long bytes c e =
+      let o = opened_from f bytes c e in
+      rw o.chain_is (opened_long o.stages (opened_few 8 f bytes o.stages o.opens))
+
   -- after an opening the words stand for the chain opened
   pub open_stands : (bytes w : List ℕ) (c : Pipeline) → open_call f bytes ≡ Ok c → All HeldStage c.stages → chain_of_words (written (words_of c) w) ≡ c
   open_stands bytes w c e held = written_stands c (opened_storable bytes c e held) w
+
+-- ---- enough words: what an opening answers and leaves
+module _ (w : List ℕ) (long : 152 ≤ length w) (o : Result Pipeline Error) (n : ℕ) (left : List ℕ) where
+  pub open_accepted : (c : Pipeline) → o ≡ Ok c → n ≡ 0 → left ≡ written (words_of c) w → record { number = n; words = left } ≡ open_outcome w o
+  open_accepted c e q k = rw (le-leb 152 (length w) long, e, q, k)
+
+  pub open_refused : (x : Error) → o ≡ Err x → n ≡ (refusal x).number → left ≡ w → record { number = n; words = left } ≡ open_outcome w o
+  open_refused x e q k = rw (le-leb 152 (length w) long, e, q, k)

@@ -7,13 +7,14 @@ ghost use Rattle.pipeline.specs.Reset.{output_format, reset_call};
 ghost use Rattle.pipeline.specs.WritingBack.{write_call, write_told};
 ghost use Rattle.block.specs.BlockCall.{block_call, scratch_bytes};
 ghost use Rattle.chain_words.specs.Layout.{stands, chain_of_words};
-ghost use Rattle.word_block.specs.Words.{SettingsStay};
+ghost use Rattle.chain_words.specs.Kept.{SettingsStay};
 ghost use Rattle.finish.specs.FinishCall.{finish_call};
 ghost use Rattle.room.specs.Room.{block_room, finish_room, room_told};
-ghost use Rattle.word_finish.specs.Words.{reset_outcome, finish_outcome, finish_words};
-ghost use Rattle.muzgleur.specs.Results.{open_outcome, block_outcome, counter_result, format_result, scratch_result};
+ghost use Rattle.chains.specs.Words.{reset_outcome};
+ghost use Rattle.muzgleur.specs.Results.{open_outcome, block_outcome, finish_outcome, finish_words, counter_result, format_result, scratch_result};
 
 use answers::{FinishTold, Told};
+use chain_words::CHAIN_WORDS;
 use pcm::{Error, PcmFormat};
 use pipeline::{Pipeline, WriteTold};
 use room::RoomTold;
@@ -61,12 +62,12 @@ pub fn muzgleur_open(rate: u32, channels: u16, recipe: &[u8], chain: &mut [u32])
     ensures all { record { number = result; words = chain.new } ≡ open_outcome chain.old (open_call (record { rate = rate; channels = channels }) recipe.now) }
     ensures chain { result ≡ 0 → open_call (record { rate = rate; channels = channels }) recipe.now ≡ Ok (chain_of_words chain.new) }
 {
-    if chain.len() < chain_words::CHAIN_WORDS {
+    let Some(words) = chain.first_chunk_mut::<CHAIN_WORDS>() else {
         return 1;
-    }
+    };
     match Pipeline::open(PcmFormat { rate, channels }, recipe) {
         Ok(made) => {
-            chain_words::put_chain(chain, made);
+            chain_words::put_chain(words, made);
             0
         }
         Err(e) => e.number(),
@@ -87,8 +88,11 @@ pub fn muzgleur_block(
     ensures all { record { result = result; chain = chain_of_words chain.new; a = a.new; b = b.new } ≡ block_outcome (block_call (chain_of_words chain.old) (record { rate = rate; channels = channels }) timestamp sound.now a.old b.old) }
     ensures words { (result.outcome ≡ 0 → chain.new ≡ chain.old) × SettingsStay chain.old chain.new }
 {
+    let Some(words) = chain.first_chunk_mut::<CHAIN_WORDS>() else {
+        return Told::from(Err(Error::InvalidFormat));
+    };
     let format = PcmFormat { rate, channels };
-    word_block::process(chain, format, timestamp, sound, a, b).told()
+    Told::from(block::call(words, format, timestamp, sound, a, b))
 }
 
 // The end of the stream: each resampler's last frame, where an output falls on it, runs on through the later stages. The output, where
@@ -99,7 +103,10 @@ pub fn muzgleur_finish(chain: &mut [u32], a: &mut [u8], b: &mut [u8]) -> FinishT
     ensures all { record { result = result; chain = chain_of_words chain.new; a = a.new; b = b.new } ≡ finish_outcome (finish_call (chain_of_words chain.old) a.old b.old) }
     ensures words { chain.new ≡ finish_words result.outcome chain.old }
 {
-    word_finish::finish(chain, a, b)
+    let Some(words) = chain.first_chunk_mut::<CHAIN_WORDS>() else {
+        return FinishTold::from(Err(Error::InvalidFormat));
+    };
+    FinishTold::from(finish::call(words, a, b))
 }
 
 // The sound memory cleared, the counters left alone. Words that stand for no chain are 1, and stay.
@@ -107,7 +114,13 @@ pub fn muzgleur_reset(chain: &mut [u32]) -> u16
     ensures all { record { number = result; words = chain.new } ≡ reset_outcome chain.old }
     ensures chain { chain_of_words chain.new ≡ reset_call (chain_of_words chain.old) }
 {
-    word_finish::reset(chain)
+    let Some(words) = chain.first_chunk_mut::<CHAIN_WORDS>() else {
+        return Error::InvalidFormat.number();
+    };
+    match chains::reset(words) {
+        Ok(()) => 0,
+        Err(e) => e.number(),
+    }
 }
 
 // How many blocks were accepted, and how many of them brought nothing.
@@ -138,7 +151,10 @@ pub fn muzgleur_output_format(chain: &[u32]) -> Format
 pub fn muzgleur_scratch_bytes(chain: &[u32], size: usize) -> ScratchResult
     ensures { result ≡ scratch_result (scratch_bytes (chain_of_words chain.now) size) }
 {
-    ScratchResult::from(word_block::scratch_bytes(chain, size))
+    let Some(words) = chain.first_chunk::<CHAIN_WORDS>() else {
+        return ScratchResult::from(Err(Error::InvalidFormat));
+    };
+    ScratchResult::from(block::scratch_of(words, size))
 }
 
 // What a block of so many frames in the chain's format will bring, whatever its bytes: the frames that leave the last stage, 0 where that
@@ -146,14 +162,20 @@ pub fn muzgleur_scratch_bytes(chain: &[u32], size: usize) -> ScratchResult
 pub fn muzgleur_block_room(chain: &[u32], frames: usize) -> RoomTold
     ensures { result ≡ room_told (block_room (chain_of_words chain.now) frames) }
 {
-    RoomTold::from(word_room::block_room(chain, frames))
+    let Some(words) = chain.first_chunk::<CHAIN_WORDS>() else {
+        return RoomTold::from(Err(Error::InvalidFormat));
+    };
+    RoomTold::from(room::block_room_of(words, frames))
 }
 
 // The same of a finish; where nothing is due both are 0.
 pub fn muzgleur_finish_room(chain: &[u32]) -> RoomTold
     ensures { result ≡ room_told (finish_room (chain_of_words chain.now)) }
 {
-    RoomTold::from(word_room::finish_room(chain))
+    let Some(words) = chain.first_chunk::<CHAIN_WORDS>() else {
+        return RoomTold::from(Err(Error::InvalidFormat));
+    };
+    RoomTold::from(room::finish_room_of(words))
 }
 
 // The recipe's bytes, without its notes, at the front of out; bytes past them stay.

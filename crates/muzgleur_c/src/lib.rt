@@ -1,4 +1,5 @@
 // The static library for programs in C and Rust: the calls of `muzgleur`, exported under their names. None requires anything of its caller.
+// Kept: each call again, since a library cannot be a static library too, and crates stand above `muzgleur` (the C interface).
 #![tactic(auto)]
 
 ghost use Rattle.std.specs.Prelude.{◌≡◌};
@@ -7,11 +8,11 @@ ghost use Rattle.pipeline.specs.Reset.{output_format, reset_call};
 ghost use Rattle.pipeline.specs.WritingBack.{write_call, write_told};
 ghost use Rattle.block.specs.BlockCall.{block_call, scratch_bytes};
 ghost use Rattle.chain_words.specs.Layout.{stands, chain_of_words};
-ghost use Rattle.word_block.specs.Words.{SettingsStay};
+ghost use Rattle.chain_words.specs.Kept.{SettingsStay};
 ghost use Rattle.finish.specs.FinishCall.{finish_call};
 ghost use Rattle.room.specs.Room.{block_room, finish_room, room_told};
-ghost use Rattle.word_finish.specs.Words.{reset_outcome, finish_outcome, finish_words};
-ghost use Rattle.muzgleur.specs.Results.{open_outcome, block_outcome, counter_result, format_result, scratch_result};
+ghost use Rattle.chains.specs.Words.{reset_outcome};
+ghost use Rattle.muzgleur.specs.Results.{open_outcome, block_outcome, counter_result, format_result, scratch_result, finish_outcome, finish_words};
 
 use answers::{FinishTold, Told};
 use muzgleur::{CounterResult, Format, ScratchResult};

@@ -1,5 +1,5 @@
 -- Numbers as they are typed: decimal digits, the first the highest (document 02, Q-4). Definitions only.
-use Rattle.std.specs.Prelude.{Bool, true, ◌&&◌, cond, List, [], ◌∷◌, ℕ, ◌+◌, ◌-◌, ◌*◌, leb}
+use Rattle.std.specs.Prelude.{Bool, true, ◌&&◌, cond, List, [], ◌∷◌, ℕ, ◌+◌, ◌-◌, ◌*◌, leb, Option, Some, None, unwrap_or}
 use Rattle.pcm.specs.declared.PcmFormat.{PcmFormat}
 
 -- 0 to 9
@@ -15,12 +15,13 @@ unfoldable pub value_after : ℕ → List ℕ → ℕ
 value_after v [] = v
 value_after v (b ∷ text) = value_after (10 * v + (b - 0x30)) text
 
--- where v was spelled so far: the number, if there are but digits and it is at most what its field holds; else 0, which is no rate and no channel count
-unfoldable pub field_after : ℕ → ℕ → List ℕ → ℕ
-field_after most v text = cond (all_digits text && leb (value_after v text) most) (value_after v text) 0
+-- where v was spelled so far: the number, if there are but digits and it is at most what its field holds
+unfoldable pub number_after : ℕ → ℕ → List ℕ → Option ℕ
+number_after most v text = cond (all_digits text && leb (value_after v text) most) (Some (value_after v text)) None
 
+-- else 0, which is no rate and no channel count
 abbrev pub field_of : ℕ → List ℕ → ℕ
-field_of most text = field_after most 0 text
+field_of most text = unwrap_or (number_after most 0 text) 0
 
 -- a rate of 32 bits, a channel count of 16
 abbrev pub format_of : List ℕ → List ℕ → PcmFormat

@@ -1,17 +1,16 @@
 -- The desk program's page: the lines, or the refusal's number alone (document 02, Q-4). Definitions only.
-use Rattle.std.specs.Prelude.{cond, List, [], ◌∷◌, ℕ, ◌/◌, ◌%◌, leb, ltb, length, Ok, Err}
+use Rattle.std.specs.Prelude.{cond, List, [], ◌∷◌, ℕ, ◌/◌, ◌%◌, ltb, length, Ok, Err}
 use Rattle.pcm.specs.declared.PcmFormat.{PcmFormat}
-use Rattle.pcm.specs.declared.Error.TheVariants.{TooLong}
-use Rattle.pcm.specs.Refusals.{ask, refusal, room_verdict, verdict_of, Verdict}
-use Rattle.pipeline.specs.Opening.{open_call}
+use Rattle.pcm.specs.Refusals.{refusal, room_verdict, verdict_of, Verdict}
 use Rattle.pipeline.specs.declared.WriteTold.{WriteTold}
 use Rattle.pipeline.specs.WritingBack.{WriteOutcome, write_outcome, told_of_writing}
+use Rattle.desk.specs.Desk.{desk_open}
 use Rattle.note_lines.specs.Arguments.{format_of}
 use Rattle.note_lines.specs.Lines.{digit, lines_of}
 
 -- a recipe of up to 1,048,576 bytes? else 10, first. Then opening's questions
 unfoldable pub desk_verdict : PcmFormat → List ℕ → Verdict
-desk_verdict f recipe = ask (leb (length recipe) 1048576) TooLong (verdict_of (open_call f recipe))
+desk_verdict f recipe = verdict_of (desk_open f recipe)
 
 -- a refusal's number, which is below 100, in decimal digits; a line feed
 unfoldable pub number_line : ℕ → List ℕ

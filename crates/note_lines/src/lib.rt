@@ -1,26 +1,25 @@
 // The desk program's page: a line for each note of a recipe, or the refusal's number (document 02, Q-4).
 #![tactic(auto)]
 
-ghost use Rattle.std.specs.Prelude.{◌≡◌, MatchOption, map, ◌+◌, ◌*◌, ◌≤◌, ◌<◌, length};
-ghost use Rattle.std.specs.Iterator.{at_most};
+ghost use Rattle.std.specs.Prelude.{◌≡◌, map, ◌+◌, ◌*◌, ◌≤◌, ◌<◌, length};
 ghost use Rattle.std.proofs.lemmas.List.Edits.{sets};
 ghost use Rattle.pcm.specs.Frames.{flat, written};
 ghost use Rattle.recipe.specs.Records.{records, WholeRecords};
 ghost use Rattle.pipeline.specs.WritingBack.{write_told};
 ghost use Rattle.note_lines.specs.Lines.{digit, hex_of, line_of, lines_of};
 ghost use Rattle.note_lines.specs.Page.{desk_verdict, number_line, printed, page_of, page_call, page_told};
-ghost use Rattle.note_lines.specs.laws.Lines.{line_if, RecordTaken};
+ghost use Rattle.recipe.specs.laws.Records.{Whole};
+ghost use Rattle.recipe.specs.Notes.{note_at};
+ghost use Rattle.note_lines.specs.laws.Lines.{line_here};
 ghost use Rattle.note_lines.specs.laws.Page.{Readable};
 
 use pcm::{Error, PcmFormat};
-use pipeline::Pipeline;
+use recipe::Records;
 
 mod arguments;
 
-// The bytes of a recipe that the desk program takes.
-const MAX_RECIPE: usize = 1048576;
-
 // A lower-case hexadecimal digit.
+// Kept: written out, here and in `put_number`: `char::from_digit` answers an `Option` of a `char` that is no byte yet.
 fn digit(n: u8) -> u8
     requires { n < 16 }
     ensures { result ≡ digit n }
@@ -29,6 +28,7 @@ fn digit(n: u8) -> u8
 }
 
 // Two digits for a byte, at `to`.
+// Kept: a place beside the buffer, here and in what follows: a line is a text between other bytes, and the contracts say where it stands.
 fn put_hex(b: u8, out: &mut [u8], to: usize)
     requires { to + 1 < length out.old }
     ensures { out.new ≡ sets out.old to (hex_of b) }
@@ -58,59 +58,42 @@ fn put_line(kind: u16, text: &[u8], out: &mut [u8], to: usize)
     out[to + 4 + 2 * text.len()] = b'\n';
 }
 
-// The line of a record, if it is a note, from `to` on, and how many bytes that took.
-#[tactic(auto, using(crate::proofs::Stores::note_line_size))]
-fn put_record(kind: u16, text: &[u8], out: &mut [u8], to: usize) -> usize
-    requires { to + length (line_if kind text.now) ≤ length out.old }
-    ensures size { result ≡ length (line_if kind text.now) }
-    ensures stored { out.new ≡ sets out.old to (line_if kind text.now) }
+// What stands in the record at the front after its kind.
+fn text_at(left: &[u8]) -> &[u8]
+    requires { Whole left.now }
+    ensures text { result.now ≡ (note_at left.now).text }
+    ensures short { length result.now < 65536 }
 {
+    let size = 2 + usize::from(words::get_u16(left, 0));
+    &left[4..size]
+}
+
+// The line of the record at the front, if it is a note, from `to` on, and how many bytes that took.
+#[tactic(auto, using(crate::proofs::Stores::note_line_size))]
+fn put_record(left: &[u8], out: &mut [u8], to: usize) -> usize
+    requires { Whole left.now × (to + length (line_here left.now) ≤ length out.old) }
+    ensures size { result ≡ length (line_here left.now) }
+    ensures stored { out.new ≡ sets out.old to (line_here left.now) }
+{
+    let kind = words::get_u16(left, 2);
     if !recipe::of_note(kind) {
         return 0;
     }
+    let text = text_at(left);
     put_line(kind, text, out, to);
     5 + 2 * text.len()
 }
 
-// The records of a recipe that are left, each by its kind and the bytes after that.
-#[derive(Drop)]
-struct Records<'a> {
-    left: &'a [u8],
-}
-
-impl<'a> Iterator for Records<'a> {
-    type Item = (u16, &'a [u8]);
-
-    ghost can_next = { λ s. WholeRecords (records s.left.now) };
-
-    ghost next_gives = { λ s r t. MatchOption r (length s.left.now ≡ 0)
-        (λ x. RecordTaken s.left.now x.0 x.1.now t.left.now) };
-
-    ghost remaining = { λ s. at_most (length s.left.now) };
-
-    fn next(&mut self) -> Option<(u16, &'a [u8])> {
-        let left = self.left;
-        if left.is_empty() {
-            return None;
-        }
-        let size = 2 + words::get_u16(left, 0) as usize;
-        let kind = words::get_u16(left, 2);
-        let text = &left[4..size];
-        self.left = &left[size..];
-        Some((kind, text))
-    }
-}
-
-// How many bytes the line of a record has, if it is a note.
+// How many bytes the line of the record at the front has, if it is a note.
 #[tactic(auto, using(crate::proofs::Stores::note_line_size))]
-fn line_size(kind: u16, text: &[u8]) -> usize
-    requires { length text.now ≤ 1048576 }
-    ensures { result ≡ length (line_if kind text.now) }
+fn line_size(left: &[u8]) -> usize
+    requires { Whole left.now }
+    ensures { result ≡ length (line_here left.now) }
 {
-    if !recipe::of_note(kind) {
+    if !recipe::of_note(words::get_u16(left, 2)) {
         return 0;
     }
-    5 + 2 * text.len()
+    5 + 2 * text_at(left).len()
 }
 
 // How many bytes the lines of whole records have.
@@ -119,8 +102,8 @@ fn lines_size(recipe: &[u8]) -> usize
     ensures { result ≡ length (lines_of recipe.now) }
 {
     let mut size = 0;
-    for (kind, text) in (Records { left: recipe }) {
-        size += line_size(kind, text);
+    for left in (Records { left: recipe }) {
+        size += line_size(left);
     }
     size
 }
@@ -131,8 +114,8 @@ fn write_lines(recipe: &[u8], out: &mut [u8])
     ensures { out.new ≡ written (lines_of recipe.now) out.old }
 {
     let mut to = 0;
-    for (kind, text) in (Records { left: recipe }) {
-        to += put_record(kind, text, out, to);
+    for left in (Records { left: recipe }) {
+        to += put_record(left, out, to);
     }
 }
 
@@ -141,10 +124,7 @@ fn write_lines(recipe: &[u8], out: &mut [u8])
 fn desk_question(format: PcmFormat, recipe: &[u8]) -> Result<(), Error>
     ensures { result ≡ desk_verdict format recipe.now }
 {
-    if recipe.len() > MAX_RECIPE {
-        return Err(Error::TooLong);
-    }
-    Pipeline::open(format, recipe)?;
+    desk::open(format, recipe)?;
     Ok(())
 }
 

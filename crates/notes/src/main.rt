@@ -9,6 +9,9 @@ use std::env::FillError;
 use std::io;
 use std::rt::{Env, Files};
 
+// Room for a byte more than a recipe may have, so that a longer file is told.
+const ROOM: usize = desk::MAX_FILE + 1;
+
 // The page at the front of out, in room that is always enough, and how many bytes it has.
 fn fill_page(rate: &[u8], channels: &[u8], recipe: &[u8], out: &mut [u8]) -> usize
     requires { (2 * length recipe.now ≤ length out.old) × (3 ≤ length out.old) }
@@ -18,15 +21,15 @@ fn fill_page(rate: &[u8], channels: &[u8], recipe: &[u8], out: &mut [u8]) -> usi
     note_lines::page(rate, channels, recipe, out).unwrap_or(0)
 }
 
-// Prints the page of the file that path names. There is room for a byte more than a recipe may have, so that a longer file is told, and
-// for twice as many of the page. Both are lent as arrays: lent as slices where they are made, the proof would have to count their elements.
+// Prints the page of the file that path names, with room for twice as many bytes as of the file. Both are lent as arrays: lent as
+// slices where they are made, the proof would have to count their elements.
 fn run<R: Files + Print + Eprint>(
     rt: &R,
     rate: &[u8],
     channels: &[u8],
     path: &[u8],
-    bytes: &mut [u8; 1048577],
-    out: &mut [u8; 2097154],
+    bytes: &mut [u8; ROOM],
+    out: &mut [u8; 2 * ROOM],
 ) -> io::Result<()> {
     let Some(count) = files::read_file(rt, path, bytes) else {
         return Ok(());
@@ -41,8 +44,8 @@ fn with_room<R: Files + Print + Eprint>(
     channels: &[u8],
     path: &[u8],
 ) -> io::Result<()> {
-    let mut bytes = [0u8; 1048577];
-    let mut out = [0u8; 2097154];
+    let mut bytes = [0u8; ROOM];
+    let mut out = [0u8; 2 * ROOM];
     run(rt, rate, channels, path, &mut bytes, &mut out)
 }
 

@@ -39,8 +39,8 @@ fn suits(format: PcmFormat, found: Record) -> bool
     }
 }
 
-#[tactic(auto, using(rates::specs::laws::Rates::opened_made))]
 // A resampler of rates that are within the limit.
+#[tactic(auto, using(rates::specs::laws::Rates::opened_made))]
 fn resampler(in_rate: u32, out_rate: u32) -> Result<StageKind, Error>
     requires { rates_allowed in_rate out_rate ≡ true }
     ensures { result ≡ Ok (StageKind.Resample (reduced in_rate out_rate)) }
@@ -66,8 +66,8 @@ fn stage_kind(format: PcmFormat, found: Record) -> Result<StageKind, Error>
     }
 }
 
-#[tactic(auto, unfolding(crate::specs::Opening::stage_verdict))]
 // The stage that a record opens, where `before` stages stand before it and `format` reaches it.
+#[tactic(auto, unfolding(crate::specs::Opening::stage_verdict))]
 pub fn stage_of(format: PcmFormat, before: usize, found: Record) -> Result<StageKind, Error>
     requires { rate_allowed format.rate ≡ true }
     ensures { result ≡ stage_answer (8 - before) format found }

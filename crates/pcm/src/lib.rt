@@ -63,6 +63,7 @@ pub enum Error {
 
 impl Error {
     // The refusal's number.
+    // Kept: `number` and `needed` in place of `From`: two whole numbers belong to a refusal, and `u16::from(e)` would not say which it gives.
     pub fn number(self) -> u16
         ensures { result ≡ (refusal self).number }
     {
@@ -93,6 +94,7 @@ impl Error {
 }
 
 // Does `out` hold `needed` bytes?
+#[tactic(auto, unfolding(crate::specs::Refusals::room_verdict))]
 pub fn require_room(out: &[u8], needed: usize) -> Result<(), Error>
     ensures { result ≡ room_verdict needed (length out.now) }
 {
@@ -103,6 +105,7 @@ pub fn require_room(out: &[u8], needed: usize) -> Result<(), Error>
 }
 
 // A sample, and whether it was held back.
+// Kept: a flag beside the value: a sample that was held back is written and counted, so both are wanted in every case.
 #[derive(Clone, Copy)]
 pub struct Saturated {
     pub sample: i16,

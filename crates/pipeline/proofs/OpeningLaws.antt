@@ -26,11 +26,10 @@ pub record StageRead (left : List ℕ) (r : Record) : Type 0 where
   pub stage : of_note (kind_at left) ≡ false
   pub is : record_at left ≡ r
 
--- a note of n bytes
-pub record NoteRead (left : List ℕ) (n : ℕ) : Type 0 where
+-- a note
+pub record NoteRead (left : List ℕ) : Type 0 where
   pub accepted : record_verdict left ≡ Ok tt
   pub note : of_note (kind_at left) ≡ true
-  pub length_is : length_at left - 2 ≡ n
 
 module _ (left : List ℕ) where
   read_entry : {found : Entry} → read_record left ≡ Ok found → (record_verdict left ≡ Ok tt) × (entry_at left ≡ found)
@@ -49,13 +48,13 @@ module _ (left : List ℕ) where
       go false k e = record { accepted = (read_entry h).0; stage = k; is = cc }
       go true k e = zero_not_one (cc)
 
-  pub read_note : {n : ℕ} → read_record left ≡ Ok (entry.Note n) → NoteRead left n
+  pub read_note : {n : ℕ} → read_record left ≡ Ok (entry.Note n) → NoteRead left
   unfolding entry_at
   read_note {n} h = go (of_note (kind_at left)) refl (read_entry h).1
     where
-      go : (t : Bool) → of_note (kind_at left) ≡ t → cond t (entry.Note (length_at left - 2)) (entry.Stage (record_at left)) ≡ entry.Note n → NoteRead left n
+      go : (t : Bool) → of_note (kind_at left) ≡ t → cond t (entry.Note (length_at left - 2)) (entry.Stage (record_at left)) ≡ entry.Note n → NoteRead left
       go false k e = zero_not_one (cc)
-      go true k e = record { accepted = (read_entry h).0; note = k; length_is = cc }
+      go true k e = record { accepted = (read_entry h).0; note = k }
 
   pub read_refused : {x : Error} → read_record left ≡ Err x → record_verdict left ≡ Err x
   unfolding read_record

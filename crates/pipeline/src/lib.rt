@@ -8,10 +8,12 @@ ghost use Rattle.pipeline.specs.WritingBack.{stages_of, write_verdict, write_cal
 ghost use Rattle.pipeline.specs.Reset.{output_format, reset_call};
 
 use pcm::{Error, PcmFormat};
-use recipe::{Entry, Record};
+use recipe::{Entry, Record, Records};
 use stage::{Stage, StageKind};
 
 // The stages in use are the first `count`; `format` is what reaches the first.
+// Kept: an array and a count: a chain of more than eight stages is a value that every call refuses with 1, so no type may leave it out, and
+// stages that are not in use are part of the value. A `Vec` would want a heap.
 #[derive(Clone, Copy)]
 pub struct Pipeline {
     pub stages: [Stage; 8],
@@ -69,20 +71,14 @@ impl Pipeline {
         let mut stages = no_stages();
         let mut reaching = format;
         let mut count: usize = 0;
-        let mut at: usize = 0;
-        while at < recipe.len() {
-            match Record::read(&recipe[at..])? {
-                Entry::Note(length) => {
-                    at += 4 + length;
-                }
-                Entry::Stage(record) => {
-                    let kind = opening::stage_of(reaching, count, record)?;
-                    stages[count] = Stage::new(kind);
-                    count += 1;
-                    reaching = stage::format_after(reaching, kind);
-                    at += record.size();
-                }
-            }
+        for left in (Records { left: recipe }) {
+            let Entry::Stage(record) = Record::read(left)? else {
+                continue;
+            };
+            let kind = opening::stage_of(reaching, count, record)?;
+            stages[count] = Stage::new(kind);
+            count += 1;
+            reaching = stage::format_after(reaching, kind);
         }
         Ok(Pipeline {
             stages,

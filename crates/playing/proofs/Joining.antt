@@ -1,12 +1,12 @@
 -- A call's output joined on to what is gathered. Assumes nothing.
-use Rattle.std.specs.Prelude.{Ok, Err}
-use Rattle.pcm.specs.Refusals.{Verdict}
+use Rattle.std.specs.Prelude.{Ok, Err, Result}
+use Rattle.pcm.specs.Refusals.{Verdict, verdict_of}
 use mathlib.Core.Path.{◌≡◌, refl, sym, ap, ◌∙◌}
 use mathlib.Core.Bool.{Bool, true, false, cond}
 use mathlib.Core.List.{List, [], ◌++◌, append-nil}
 use Prim.Native.Nat.{ℕ, ◌+◌, ◌-◌, ◌≤◌}
 use native.Mathlib.Omega.{arith}
-use borrow.Author.Tests.{leb-true, le-leb}
+use borrow.Author.Tests.{leb-true}
 use borrow.Author.Rules.{part_to_end}
 use borrow.Rule.Slice.PartMut.{put_mid}
 use lib.Dec.{leb}
@@ -18,51 +18,12 @@ use Rattle.pcm.specs.laws.Frames.{length_written}
 use Rattle.pcm.specs.laws.Written.{written_part}
 use Rattle.pipeline.specs.declared.Pipeline.{Pipeline}
 use Rattle.answers.specs.declared.Answer.{Answer}
-use Rattle.answers.specs.declared.Answer.TheVariants as answer
-use Rattle.answers.specs.declared.FinishAnswer.{FinishAnswer}
-use Rattle.answers.specs.declared.FinishAnswer.TheVariants as finished
-use Rattle.answers.specs.Answers.{front_of, output_of}
-use Rattle.block.specs.BlockCall.{BlockResult}
-use Rattle.finish.specs.FinishCall.{FinishResult}
-use Rattle.stream.specs.Calls.{output_by, call_output, finish_output_by, finish_output}
-use Rattle.playing.specs.Playing.{Playing, Played, going, stopped, gathering, verdict_by, finish_verdict_by}
-use Rattle.playing.specs.Steps.{block_piece, finish_piece, Joined, joined_by, joined}
+use Rattle.stream.specs.Calls.{output_by}
+use Rattle.playing.specs.Playing.{Playing, Played, going, stopped, gathering}
+use Rattle.playing.specs.Steps.{Joined, appended, joined_by}
 
--- ---- what a call answered
-none_in_front : (l : List ℕ) → front_of 0 l ≡ []
-none_in_front l = rw (le-leb 0 (length l) (omega arith))
-
-block_verdict_lem : (x : Answer) → (block_piece x).verdict ≡ verdict_by x
-block_verdict_lem (answer.Output format timestamp side len clipped) = refl
-block_verdict_lem (answer.NothingYet clipped) = refl
-block_verdict_lem (answer.Refused e) = refl
-
-block_output : (x : Answer) (r : BlockResult) → output_of (block_piece x).half (block_piece x).len r.a r.b ≡ output_by x r
-block_output (answer.Output format timestamp side len clipped) r = refl
-block_output (answer.NothingYet clipped) r = none_in_front r.a
-block_output (answer.Refused e) r = none_in_front r.a
-
-finish_verdict_lem : (x : FinishAnswer) → (finish_piece x).verdict ≡ finish_verdict_by x
-finish_verdict_lem (finished.Output format side len clipped) = refl
-finish_verdict_lem (finished.NothingYet clipped) = refl
-finish_verdict_lem (finished.Refused e) = refl
-
-finish_output_lem : (x : FinishAnswer) (r : FinishResult) → output_of (finish_piece x).half (finish_piece x).len r.a r.b ≡ finish_output_by x r
-finish_output_lem (finished.Output format side len clipped) r = refl
-finish_output_lem (finished.NothingYet clipped) r = none_in_front r.a
-finish_output_lem (finished.Refused e) r = none_in_front r.a
-
-pub block_joined : (r : BlockResult) (n : ℕ) (out : List ℕ) → joined (block_piece r.answer) r.a r.b n out ≡ joined_by (verdict_by r.answer) n (call_output r) out
-unfolding joined
-block_joined r n out = rw (block_verdict_lem r.answer, block_output r.answer r)
-
-pub finish_joined : (r : FinishResult) (n : ℕ) (out : List ℕ) → joined (finish_piece r.answer) r.a r.b n out ≡ joined_by (finish_verdict_by r.answer) n (finish_output r) out
-unfolding joined
-finish_joined r n out = rw (finish_verdict_lem r.answer, finish_output_lem r.answer r)
-
--- ---- bytes put behind the first n
--- the part from n on, put back
-pub put_back : (n : ℕ) (piece out l : List ℕ) → l ≡ written piece (take (length out - n) (drop n out)) → put_mid n (length out - n) out l ≡ take n out ++ written piece (drop n out)
+-- ---- the part from n on, put back
+put_back : (n : ℕ) (piece out l : List ℕ) → l ≡ written piece (take (length out - n) (drop n out)) → put_mid n (length out - n) out l ≡ take n out ++ written piece (drop n out)
 put_back n piece out l h =
     let e : drop (length out - n) (drop n out) ≡ [] = drop_of_length-le (drop n out) {i = length out - n} (omega (arith, length-drop n out)) in
     ap (λ (x : List ℕ). take n out ++ x) (rw e (append-nil l) ∙ h ∙ ap (written piece) (part_to_end out n))
@@ -79,13 +40,10 @@ pub record Holds (got out₀ : List ℕ) (n : ℕ) (out : List ℕ) : Type 0 whe
   pub placed : out ≡ written got out₀
 
 module _ {got out₀ : List ℕ} {n : ℕ} {out : List ℕ} (h : Holds got out₀ n out) where
-  pub holds-length : length out ≡ length out₀
+  holds-length : length out ≡ length out₀
   holds-length = ap length h.placed ∙ length_written got out₀ h.fits
 
-  pub holds_room : n ≤ length out
-  holds_room = omega (arith, holds-length, h.fits, h.many)
-
-abbrev playing : Pipeline → List ℕ → List ℕ → List ℕ → Playing
+abbrev pub playing : Pipeline → List ℕ → List ℕ → List ℕ → Playing
 playing c a b sound = record { chain = c; a = a; b = b; sound = sound }
 
 -- what a call's output leaves: it is joined on, or what is gathered stays and the run is stopped
@@ -112,3 +70,11 @@ module _ (output : List ℕ) {got out₀ : List ℕ} {n : ℕ} {out : List ℕ} 
   pub joins : (v : Verdict) → After got out₀ output c a b (gathering (length out₀) v output (playing c a b got)) (joined_by v n output out)
   joins (Err e) = ended e refl refl h.placed
   joins (Ok _) = rw same_test (appended_after (leb (length got + length output) (length out₀)) refl)
+
+-- ---- the output that an answer names, joined on: it was refused, or brought something
+module _ {T : Type 0} (answer : Result (Answer T) Error) (a b : List ℕ) (n : ℕ) (out : List ℕ) where
+  pub joined_refused : (e : Error) → answer ≡ Err e → record { gathered = Err e; out = out } ≡ joined_by (verdict_of answer) n (output_by answer a b) out
+  joined_refused e h = rw h
+
+  pub joined_accepted : (x : Answer T) → answer ≡ Ok x → (output : List ℕ) → output ≡ output_by (Ok x) a b → (j : Joined) → j ≡ appended n output out → j ≡ joined_by (verdict_of answer) n (output_by answer a b) out
+  joined_accepted x h output o j q = rw (h, ← o) q

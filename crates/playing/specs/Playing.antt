@@ -1,7 +1,7 @@
 -- A whole sound through a chain: by blocks of 1,024 frames, the last shorter, ended by the finish call, what comes out gathered (document 02, Q-7).
 -- Definitions only.
 use Rattle.std.specs.Prelude.{Ok, Err, Result}
-use Rattle.pcm.specs.Refusals.{Verdict}
+use Rattle.pcm.specs.Refusals.{Verdict, verdict_of}
 use mathlib.Core.Bool.{cond}
 use mathlib.Core.List.{List, [], ◌∷◌, ◌++◌}
 use Prim.Native.Nat.{ℕ, ◌+◌, ◌*◌}
@@ -14,10 +14,6 @@ use Rattle.pcm.specs.Formats.{frame_bytes}
 use Rattle.pcm.specs.Frames.{cut, written}
 use Rattle.rates.specs.Counting.{ceil_div}
 use Rattle.pipeline.specs.declared.Pipeline.{Pipeline}
-use Rattle.answers.specs.declared.Answer.{Answer}
-use Rattle.answers.specs.declared.Answer.TheVariants as answer
-use Rattle.answers.specs.declared.FinishAnswer.{FinishAnswer}
-use Rattle.answers.specs.declared.FinishAnswer.TheVariants as finished
 use Rattle.block.specs.BlockCall.{BlockResult, block_call}
 use Rattle.finish.specs.FinishCall.{FinishResult, finish_call}
 use Rattle.stream.specs.Calls.{call_output, finish_output}
@@ -55,25 +51,15 @@ gathering limit (Ok _) output p =
     (stopped TooLong p)
 
 -- ---- a block
-abbrev pub verdict_by : Answer → Verdict
-verdict_by (answer.Output format timestamp side len clipped) = Ok tt
-verdict_by (answer.NothingYet clipped) = Ok tt
-verdict_by (answer.Refused e) = Err e
-
 abbrev pub block_gathered : ℕ → BlockResult → List ℕ → Played
-block_gathered limit r sound = gathering limit (verdict_by r.answer) (call_output r) (record { chain = r.chain; a = r.a; b = r.b; sound = sound })
+block_gathered limit r sound = gathering limit (verdict_of r.answer) (call_output r) (record { chain = r.chain; a = r.a; b = r.b; sound = sound })
 
 abbrev pub after_block : ℕ → PcmFormat → List ℕ → Playing → Played
 after_block limit f block p = block_gathered limit (block_call p.chain f 0 block p.a p.b) p.sound
 
 -- ---- the finish
-abbrev pub finish_verdict_by : FinishAnswer → Verdict
-finish_verdict_by (finished.Output format side len clipped) = Ok tt
-finish_verdict_by (finished.NothingYet clipped) = Ok tt
-finish_verdict_by (finished.Refused e) = Err e
-
 abbrev pub finish_gathered : ℕ → FinishResult → List ℕ → Played
-finish_gathered limit r sound = gathering limit (finish_verdict_by r.answer) (finish_output r) (record { chain = r.chain; a = r.a; b = r.b; sound = sound })
+finish_gathered limit r sound = gathering limit (verdict_of r.answer) (finish_output r) (record { chain = r.chain; a = r.a; b = r.b; sound = sound })
 
 abbrev pub after_finish : ℕ → Playing → Played
 after_finish limit p = finish_gathered limit (finish_call p.chain p.a p.b) p.sound

@@ -1,13 +1,14 @@
 -- The questions of a block and of `scratch_bytes` (document 01, 'The questions') and of a finish (document 02, Q-1), as one walk along the
 -- stages finds them. Definitions only.
-use Rattle.std.specs.Prelude.{◌≡◌, Bool, cond, ◌&&◌, true, false, ℕ, ◌*◌, ◌%◌, ◌/◌, ◌≤◌, ◌<◌, eqb, leb, ltb, List, [], ◌∷◌, Ok, Err}
+use Rattle.std.specs.Prelude.{◌≡◌, Bool, cond, ◌&&◌, ℕ, ◌*◌, ◌%◌, ◌/◌, ◌≤◌, ◌<◌, eqb, leb, ltb, List, [], ◌∷◌, Option, None, Some, IfSome, Result, Ok, Err, IfOk}
 use Rattle.pcm.specs.declared.PcmFormat.{PcmFormat}
+use Rattle.pcm.specs.declared.Error.{Error}
 use Rattle.pcm.specs.declared.Error.TheVariants.{InvalidFormat, Unsupported, BufferTooSmall, InvalidGeometry, TooLong}
-use Rattle.pcm.specs.Formats.{format_allowed}
+use Rattle.pcm.specs.Formats.{OneOrTwo, format_allowed}
 use Rattle.pcm.specs.Refusals.{ask, and_then, Verdict}
 use Rattle.stage.specs.declared.Stage.{Stage}
 use Rattle.stage.specs.Stages.{format_after}
-use Rattle.stage.specs.Rooms.{stage_suits, frames_out, frames_wanted}
+use Rattle.stage.specs.Rooms.{FewFrames, stage_suits, frames_out, frames_wanted}
 use Rattle.ending.specs.StageEnd.{frames_at_end}
 use Rattle.questions.specs.declared.Question.{Question}
 use Rattle.questions.specs.declared.Question.TheVariants.{Block, AnyState, Finish}
@@ -50,9 +51,10 @@ due_of Block s n = cond (eqb n 0) (record { wanted = 0; delivered = 0 }) (record
 due_of AnyState s n = record { wanted = frames_wanted s.kind n; delivered = frames_wanted s.kind n }
 due_of Finish s n = record { wanted = frames_at_end s.kind s.memory n; delivered = frames_at_end s.kind s.memory n }
 
--- the room of the first stage that the shorter half does not hold; 0 while there is none
-unfoldable pub first_short : ℕ → ℕ → ℕ → ℕ
-first_short shorter short room = cond (eqb short 0) (cond (leb room shorter) 0 room) short
+-- the room of the first stage that the shorter half does not hold, where one more wants `room`
+unfoldable pub first_short : ℕ → Option ℕ → ℕ → Option ℕ
+first_short shorter (Some short) room = Some short
+first_short shorter None room = cond (leb room shorter) None (Some room)
 
 -- the room, in bytes, of a stage that the walk has come to
 unfoldable pub room_of : Question → Walk → Stage → ℕ
@@ -61,24 +63,20 @@ room_of q w s = (due_of q s w.frames).wanted * ((format_after w.format s.kind).c
 -- one stage further
 unfoldable pub further : Question → ℕ → Walk → Stage → Walk
 further q shorter w s = record {
-  legal = true;
   format = format_after w.format s.kind;
   frames = (due_of q s w.frames).delivered;
   largest = larger w.largest (room_of q w s);
   short = first_short shorter w.short (room_of q w s);
 }
 
--- past a stage that does not suit the format that reaches it, nothing more is found
-unfoldable pub illegal : PcmFormat → Walk
-illegal f = record { legal = false; format = f; frames = 0; largest = 0; short = 0 }
-
-unfoldable pub stepped : Question → ℕ → Walk → Stage → Walk
-stepped q shorter w s = cond (w.legal && stage_suits w.format s.kind s.memory) (further q shorter w s) (illegal w.format)
+-- Does the stage suit the format that reaches it? else 1
+unfoldable pub stepped : Question → ℕ → Walk → Stage → Result Walk Error
+stepped q shorter w s = cond (stage_suits w.format s.kind s.memory) (Ok (further q shorter w s)) (Err InvalidFormat)
 
 -- ---- the walk
 -- so few frames in 1 or 2 channels that every figure fits
 abbrev pub WalkFits : Walk → Type 0
-WalkFits w = (w.frames ≤ 2400000000000) × ((0 < w.format.channels) × (w.format.channels ≤ 2))
+WalkFits w = FewFrames w.frames × OneOrTwo w.format.channels
 
 -- before the first stage: the frames of a block of `size` bytes; for no stages they want room themselves
 abbrev pub copy_room : ℕ → ℕ → ℕ
@@ -86,30 +84,48 @@ copy_room count room = cond (eqb count 0) room 0
 
 unfoldable pub begun : PcmFormat → ℕ → ℕ → ℕ → Walk
 begun f count size shorter = record {
-  legal = true;
   format = f;
   frames = block_frames f size;
   largest = copy_room count (block_frames f size * (f.channels * 2));
-  short = first_short shorter 0 (copy_room count (block_frames f size * (f.channels * 2)));
+  short = first_short shorter None (copy_room count (block_frames f size * (f.channels * 2)));
 }
 
+-- a refusal ends the walk
+abbrev pub walk_on : Result Walk Error → (Walk → Result Walk Error) → Result Walk Error
+walk_on (Ok w) next = next w
+walk_on (Err e) next = Err e
+
 -- along the stages, in chain order
-unfoldable pub walked : Question → ℕ → Walk → List Stage → Walk
-walked q shorter w [] = w
-walked q shorter w (s ∷ rest) = walked q shorter (stepped q shorter w s) rest
+unfoldable pub walked : Question → ℕ → Walk → List Stage → Result Walk Error
+walked q shorter w [] = Ok w
+walked q shorter w (s ∷ rest) = walk_on (stepped q shorter w s) (λ v. walked q shorter v rest)
+
+-- what it finds of stages that all suit
+unfoldable pub along : Question → ℕ → Walk → List Stage → Walk
+along q shorter w [] = w
+along q shorter w (s ∷ rest) = along q shorter (further q shorter w s) rest
+
+-- a room of which twice fits a word
+abbrev pub ShortFits : Option ℕ → Type 0
+ShortFits short = IfSome short (λ room. room ≤ 3688000000000000000)
 
 -- a walk that asked along the stages, and the bounds of its figures
-pub record Walked (r found : Walk) : Type 0 where
+pub record Walked (r found : Result Walk Error) : Type 0 where
   pub is : r ≡ found
-  pub largest : r.largest ≤ 3688000000000000000
-  pub short : r.short ≤ 3688000000000000000
+  pub fits : IfOk r (λ w. (w.largest ≤ 3688000000000000000) × ShortFits w.short)
 
 -- ---- what the walk answers
 -- Is every stage legal? else 1. Then the size
-unfoldable pub sized_from : PcmFormat → ℕ → Walk → Verdict
-sized_from f size w = ask w.legal InvalidFormat (size_verdict f size)
+unfoldable pub sized_from : PcmFormat → ℕ → Result Walk Error → Verdict
+sized_from f size (Ok w) = size_verdict f size
+sized_from f size (Err e) = Err e
 
--- then: In the chain's format? else 2. Room? else 3, with needed = twice the room of the first stage short
-unfoldable pub verdict_from : PcmFormat → PcmFormat → ℕ → Walk → Verdict
-verdict_from own format size w =
-    and_then (sized_from own size w) (ask (same_format own format) Unsupported (ask (eqb w.short 0) (BufferTooSmall (2 * w.short)) (Ok tt)))
+-- Room? else 3, with needed = twice the room of the first stage short
+abbrev pub short_verdict : Option ℕ → Verdict
+short_verdict None = Ok tt
+short_verdict (Some room) = Err (BufferTooSmall (2 * room))
+
+-- the same, then: In the chain's format? else 2. Room?
+unfoldable pub verdict_from : PcmFormat → PcmFormat → ℕ → Result Walk Error → Verdict
+verdict_from own format size (Ok w) = and_then (size_verdict own size) (ask (same_format own format) Unsupported (short_verdict w.short))
+verdict_from own format size (Err e) = Err e

@@ -1,9 +1,10 @@
 // The questions of a call, asked in one walk along the stages before any of them moves.
 #![tactic(auto)]
 
-ghost use Rattle.std.specs.Prelude.{◌≡◌, ◌≤◌, ◌<◌};
-ghost use Rattle.stage.specs.Rooms.{Bounded};
-ghost use Rattle.questions.specs.Walk.{head_legal, size_verdict, block_frames, due_of, first_short, further, stepped, begun, copy_room, WalkFits, sized_from, verdict_from};
+ghost use Rattle.std.specs.Prelude.{◌≡◌, ◌≤◌, ◌<◌, Ok};
+ghost use Rattle.pcm.specs.Formats.{OneOrTwo};
+ghost use Rattle.stage.specs.Rooms.{Bounded, FewFrames};
+ghost use Rattle.questions.specs.Walk.{size_verdict, block_frames, due_of, first_short, further, stepped, begun, copy_room, WalkFits, ShortFits, short_verdict, verdict_from};
 
 use pcm::{Error, PcmFormat};
 use stage::Stage;
@@ -23,27 +24,27 @@ pub struct Due {
     pub delivered: usize,
 }
 
-// What the walk has found before a stage: whether each stage so far suits the format that reached it, the format and the frames that
-// reach this one, the largest room wanted so far in bytes, and the first that the shorter half does not hold (0: none).
+// What a walk asks along the stages: for which call, and against a shorter half of so many bytes.
+#[derive(Clone, Copy)]
+pub struct Asking {
+    pub question: Question,
+    pub shorter: usize,
+}
+
+// What the walk has found before a stage: the format and the frames that reach it, the largest room wanted so far in bytes, and the first
+// that the shorter half does not hold.
 #[derive(Clone, Copy)]
 pub struct Walk {
-    pub legal: bool,
     pub format: PcmFormat,
     pub frames: usize,
     pub largest: usize,
-    pub short: usize,
-}
-
-// Are the number of stages and the chain's own format within their limits?
-pub fn head_legal(format: PcmFormat, count: usize) -> bool
-    ensures { result ≡ head_legal format count }
-{
-    count <= 8 && format.allowed()
+    pub short: Option<usize>,
 }
 
 // The questions of a block's size, in their order.
+// Kept: `0 < channels` written out, here and twice below: with the named fact of one or two channels each would ask more of its callers.
 #[tactic(auto, unfolding(crate::specs::Walk::size_verdict))]
-fn size_question(format: PcmFormat, size: usize) -> Result<(), Error>
+pub fn size_question(format: PcmFormat, size: usize) -> Result<(), Error>
     requires { 0 < format.channels }
     ensures { result ≡ size_verdict format size }
 {
@@ -70,9 +71,10 @@ fn block_frames(format: PcmFormat, size: usize) -> usize
 }
 
 // What a stage that so many frames reach wants and delivers.
+// Kept: a match over the question. `due_of` asks by the same three cases, and a closure for each would hide which question it is.
 #[tactic(auto, unfolding(crate::specs::Walk::due_of))]
 fn stage_due(question: Question, s: Stage, frames: usize) -> Due
-    requires { (frames ≤ 2400000000000) × Bounded s.kind }
+    requires { FewFrames frames × Bounded s.kind }
     ensures { result ≡ due_of question s frames }
 {
     let wanted = stage::frames_wanted(s.kind, frames);
@@ -105,50 +107,13 @@ fn stage_due(question: Question, s: Stage, frames: usize) -> Due
 
 // The first room that the shorter half does not hold, where `room` is the next one wanted.
 #[tactic(auto, unfolding(crate::specs::Walk::first_short))]
-fn first_short(short: usize, room: usize, shorter: usize) -> usize
+fn first_short(short: Option<usize>, room: usize, shorter: usize) -> Option<usize>
     ensures { result ≡ first_short shorter short room }
 {
-    if short != 0 {
+    if short.is_some() {
         return short;
     }
-    if room <= shorter { 0 } else { room }
-}
-
-// One stage further, past a stage that suits.
-#[tactic(auto, unfolding(crate::specs::Walk::further, crate::specs::Walk::room_of, crate::specs::Walk::larger), using(crate::specs::laws::Walking::room_fits))]
-fn onward(walk: Walk, s: Stage, question: Question, shorter: usize) -> Walk
-    requires { WalkFits walk × Bounded s.kind }
-    ensures { result ≡ further question shorter walk s }
-{
-    let format = stage::format_after(walk.format, s.kind);
-    let d = stage_due(question, s, walk.frames);
-    let room = d.wanted * format.frame_bytes();
-    Walk {
-        legal: true,
-        format,
-        frames: d.delivered,
-        largest: walk.largest.max(room),
-        short: first_short(walk.short, room, shorter),
-    }
-}
-
-// One stage further: does it suit the format that reaches it, and what will it want and deliver?
-#[tactic(auto, unfolding(crate::specs::Walk::stepped, crate::specs::Walk::illegal), using(stage::specs::laws::Rooms::suits_bounded))]
-pub fn asked(walk: Walk, s: Stage, question: Question, shorter: usize) -> Walk
-    requires { WalkFits walk }
-    ensures { result ≡ stepped question shorter walk s }
-{
-    let format = walk.format;
-    if walk.legal && stage::stage_suits(format, s) {
-        return onward(walk, s, question, shorter);
-    }
-    Walk {
-        legal: false,
-        format,
-        frames: 0,
-        largest: 0,
-        short: 0,
-    }
+    if room <= shorter { None } else { Some(room) }
 }
 
 // The room that a block wants of a chain of no stages.
@@ -159,49 +124,73 @@ fn copy_room(count: usize, room: usize) -> usize
     if count == 0 { room } else { 0 }
 }
 
-// The walk before the first of so many stages.
-#[tactic(auto, unfolding(crate::specs::Walk::begun, crate::specs::Walk::block_frames, crate::specs::Walk::size_verdict))]
-pub fn begun(format: PcmFormat, count: usize, size: usize, shorter: usize) -> Walk
-    requires { (0 < format.channels) × (format.channels ≤ 2) }
-    ensures { result ≡ begun format count size shorter }
-{
-    let frames = block_frames(format, size);
-    let room = copy_room(count, frames * format.frame_bytes());
-    Walk {
-        legal: true,
-        format,
-        frames,
-        largest: room,
-        short: first_short(0, room, shorter),
+impl Asking {
+    // The walk before the first of so many stages.
+    #[tactic(auto, unfolding(crate::specs::Walk::begun, crate::specs::Walk::block_frames, crate::specs::Walk::size_verdict))]
+    pub fn begun(self, format: PcmFormat, count: usize, size: usize) -> Walk
+        requires { OneOrTwo format.channels }
+        ensures { result ≡ begun format count size self.shorter }
+    {
+        let frames = block_frames(format, size);
+        let room = copy_room(count, frames * format.frame_bytes());
+        Walk {
+            format,
+            frames,
+            largest: room,
+            short: first_short(None, room, self.shorter),
+        }
+    }
+
+    // One stage further, past one that suits.
+    #[tactic(auto, unfolding(crate::specs::Walk::further, crate::specs::Walk::room_of, crate::specs::Walk::larger), using(crate::specs::laws::Walking::room_fits))]
+    fn further(self, walk: Walk, s: Stage) -> Walk
+        requires { WalkFits walk × Bounded s.kind }
+        ensures { result ≡ further self.question self.shorter walk s }
+    {
+        let format = stage::format_after(walk.format, s.kind);
+        let d = stage_due(self.question, s, walk.frames);
+        let room = d.wanted * format.frame_bytes();
+        Walk {
+            format,
+            frames: d.delivered,
+            largest: walk.largest.max(room),
+            short: first_short(walk.short, room, self.shorter),
+        }
+    }
+
+    // One stage further: does it suit the format that reaches it, and what will it want and deliver?
+    #[tactic(auto, unfolding(crate::specs::Walk::stepped), using(stage::specs::laws::Rooms::suits_bounded))]
+    pub fn step(self, walk: Walk, s: Stage) -> Result<Walk, Error>
+        requires { WalkFits walk }
+        ensures { result ≡ stepped self.question self.shorter walk s }
+    {
+        if !stage::stage_suits(walk.format, s) {
+            return Err(Error::InvalidFormat);
+        }
+        Ok(self.further(walk, s))
     }
 }
 
-// After the walk: is every stage legal, and the size?
-#[tactic(auto, unfolding(crate::specs::Walk::sized_from))]
-pub fn sized(format: PcmFormat, size: usize, walk: Walk) -> Result<(), Error>
-    requires { 0 < format.channels }
-    ensures { result ≡ sized_from format size walk }
+// After the walk: room? Twice that of the first stage short is needed.
+pub fn room_question(walk: Walk) -> Result<(), Error>
+    requires { ShortFits walk.short }
+    ensures { result ≡ short_verdict walk.short }
 {
-    if !walk.legal {
-        return Err(Error::InvalidFormat);
+    match walk.short {
+        Some(room) => Err(Error::BufferTooSmall { needed: 2 * room }),
+        None => Ok(()),
     }
-    size_question(format, size)
 }
 
-// The same, then: in the chain's format, and room?
+// After the walk that asks a block's questions: the size, in the chain's format, and room?
 #[tactic(auto, unfolding(crate::specs::Walk::verdict_from))]
 pub fn verdict(own: PcmFormat, format: PcmFormat, size: usize, walk: Walk) -> Result<(), Error>
-    requires { (0 < own.channels) × (walk.short ≤ 3688000000000000000) }
-    ensures { result ≡ verdict_from own format size walk }
+    requires { (0 < own.channels) × ShortFits walk.short }
+    ensures { result ≡ verdict_from own format size (Ok walk) }
 {
-    sized(own, size, walk)?;
+    size_question(own, size)?;
     if own != format {
         return Err(Error::Unsupported);
     }
-    if walk.short != 0 {
-        return Err(Error::BufferTooSmall {
-            needed: 2 * walk.short,
-        });
-    }
-    Ok(())
+    room_question(walk)
 }

@@ -18,11 +18,14 @@ pub struct LinearResampler {
     pub out_r: u64,
 }
 
-// The newest frame, one sample a channel, and how far past it the next output lies, in out_r-ths of a frame.
+// How far past the newest frame the next output lies, in out_r-ths of a frame, and that frame, one sample a channel. The 64 bits stand first:
+// a chain is copied at each call, and so eight states have 64 bytes less to copy.
+// Kept: a flag in place of an `Option` of frame and phase: each field may hold any value where the state is not primed too, as the words of a
+// chain in C's memory do, and a state that is read and written back keeps them.
 #[derive(Clone, Copy)]
 pub struct ResamplerState {
-    pub last: [i16; 2],
     pub phase: u64,
+    pub last: [i16; 2],
     pub primed: bool,
 }
 
@@ -32,10 +35,18 @@ impl ResamplerState {
         ensures { result ≡ opened_state }
     {
         ResamplerState {
-            last: [0, 0],
             phase: 0,
+            last: [0, 0],
             primed: false,
         }
+    }
+
+    // The first output's position, where 0 is the state's newest frame and out_r the first of the block.
+    #[tactic(auto, unfolding(crate::specs::Rates::start))]
+    pub fn first_position(self, out_r: u64) -> u64
+        ensures { result ≡ start out_r self.primed self.phase }
+    {
+        if self.primed { self.phase } else { out_r }
     }
 }
 
@@ -83,14 +94,6 @@ pub fn rates_allowed(in_rate: u32, out_rate: u32) -> bool
     pcm::rate_allowed(in_rate) && pcm::rate_allowed(out_rate)
 }
 
-// The first output's position, where 0 is the state's newest frame and out_r the first of the block.
-#[tactic(auto, unfolding(crate::specs::Rates::start))]
-pub fn first_position(out_r: u64, primed: bool, phase: u64) -> u64
-    ensures { result ≡ start out_r primed phase }
-{
-    if primed { phase } else { out_r }
-}
-
 impl LinearResampler {
     // A resampler between two rates of 1 to 384,000.
     #[tactic(auto, unfolding(crate::specs::Rates::resampler_of, crate::specs::Rates::reduced), using(crate::specs::laws::Rates::rates_within, crate::specs::laws::Divisor::gcd_positive))]
@@ -105,8 +108,8 @@ impl LinearResampler {
         Ok(LinearResampler {
             in_rate,
             out_rate,
-            in_r: quotient(in_rate, g) as u64,
-            out_r: quotient(out_rate, g) as u64,
+            in_r: u64::from(quotient(in_rate, g)),
+            out_r: u64::from(quotient(out_rate, g)),
         })
     }
 
@@ -138,15 +141,15 @@ impl LinearResampler {
 
     // How many frames the stage makes of so many, from the phase alone: exact, at equal rates also.
     #[tactic(auto, using(crate::proofs::Rates::counted))]
-    pub fn output_frames(self, primed: bool, phase: u64, frames: usize) -> usize
+    pub fn output_frames(self, state: ResamplerState, frames: usize) -> usize
         requires { (0 < self.in_r) × (frames * self.out_r + self.in_r < 2 ^ 64) }
-        ensures { result ≡ resampled_count self primed phase frames }
+        ensures { result ≡ resampled_count self state.primed state.phase frames }
     {
         if self.in_rate == self.out_rate {
             return frames;
         }
         let end = (frames as u64) * self.out_r;
-        let num = first_position(self.out_r, primed, phase);
+        let num = state.first_position(self.out_r);
         end.saturating_sub(num).div_ceil(self.in_r) as usize
     }
 }

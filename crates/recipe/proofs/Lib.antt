@@ -1,1 +1,1 @@
-mod Records
+mod Entries

@@ -1,29 +1,19 @@
 -- The records of a recipe and the questions that their bytes are asked (document 01, 'The recipe' and 'The questions'; document 02, Q-4). Definitions only.
 use Rattle.pcm.specs.declared.Error.{Error}
-use Rattle.std.specs.Prelude.{◌≡◌, Bool, ◌&&◌, ◌||◌, cond, List, [], ◌∷◌, ◌++◌, ℕ, zero, suc, ◌+◌, ◌-◌, ◌*◌, leb, ltb, eqb, length, get_or, take, drop, Ok, Err, Result}
+use Rattle.std.specs.Prelude.{◌≡◌, Bool, true, ◌&&◌, ◌||◌, cond, List, [], ◌∷◌, ◌++◌, ℕ, zero, suc, ◌+◌, ◌-◌, ◌*◌, leb, ltb, eqb, length, get_or, take, drop, Ok, Err, Result, Option, Some, None}
 use Rattle.std.specs.Int.{w32}
 use Rattle.std.proofs.Common.{to_z, of_z}
 use Rattle.pcm.specs.Samples.{All}
 use Rattle.pcm.specs.Refusals.{ask, and_then, Verdict}
 use Rattle.pcm.specs.declared.Error.TheVariants.{ShortRecord, UnknownStage, RecordLength, NoteTooLong}
+use Rattle.recipe.specs.declared.Kind.{Kind}
+use Rattle.recipe.specs.declared.Kind.TheVariants as kind
 use Rattle.recipe.specs.declared.Record.{Record}
 use Rattle.recipe.specs.declared.Record.TheVariants as rec
 use Rattle.recipe.specs.declared.Entry.{Entry}
 use Rattle.recipe.specs.declared.Entry.TheVariants as entry
 use Rattle.words.specs.Words.{word_at, word_bytes, words, words_bytes}
-
--- 0x0001 gain, 0x0002 mono to stereo, 0x0003 stereo to mono, 0x0004 resample, 0x0005 DC, 0x0006 biquad
-pub data Kind : Type 0 where
-  gain : Kind
-  mono_to_stereo : Kind
-  stereo_to_mono : Kind
-  resample : Kind
-  dc_block : Kind
-  biquad : Kind
-  unknown : Kind
-
-abbrev pub kind_numbered : ℕ → Kind
-kind_numbered n = get_or (unknown ∷ gain ∷ mono_to_stereo ∷ stereo_to_mono ∷ resample ∷ dc_block ∷ biquad ∷ []) n unknown
+use Rattle.recipe.specs.Kinds.{kind_number, kind_numbered, fields_in}
 
 abbrev pub of_stage : ℕ → Bool
 of_stage kind = ltb 0 kind && leb kind 6
@@ -35,27 +25,18 @@ of_note kind = leb 0x8000 kind
 abbrev pub known : ℕ → Bool
 known kind = of_stage kind || of_note kind
 
--- how many fields of 32 bits each stage's kind has
-abbrev pub fields_in : Kind → ℕ
-fields_in gain = 1
-fields_in mono_to_stereo = 0
-fields_in stereo_to_mono = 0
-fields_in resample = 2
-fields_in dc_block = 1
-fields_in biquad = 6
-fields_in unknown = 0
-
+-- how many fields of 32 bits the kind with this number has
 abbrev pub field_count : ℕ → ℕ
 field_count kind = fields_in (kind_numbered kind)
 
 -- the kind of a stage's record
-abbrev pub kind_number : Record → ℕ
-kind_number (rec.Gain q15) = 1
-kind_number rec.MonoToStereo = 2
-kind_number rec.StereoToMono = 3
-kind_number (rec.Resample input output) = 4
-kind_number (rec.DcBlock corner) = 5
-kind_number (rec.Biquad rate bits) = 6
+abbrev pub record_kind : Record → Kind
+record_kind (rec.Gain q15) = kind.Gain
+record_kind rec.MonoToStereo = kind.MonoToStereo
+record_kind rec.StereoToMono = kind.StereoToMono
+record_kind (rec.Resample input output) = kind.Resample
+record_kind (rec.DcBlock corner) = kind.DcBlock
+record_kind (rec.Biquad rate bits) = kind.Biquad
 
 -- its fields. Gain: q15, signed 32-bit. Resample: input rate, output rate. DC: corner as binary32 bits. Biquad: rate, then b0, b1, b2, a1, a2 as binary32 bits
 abbrev pub fields_of : Record → List ℕ
@@ -68,17 +49,17 @@ fields_of (rec.Biquad rate bits) = rate ∷ bits.b0 ∷ bits.b1 ∷ bits.b2 ∷ 
 
 -- two-byte length, counting what follows it; two-byte kind; fields
 unfoldable pub record_bytes : Record → List ℕ
-record_bytes r = word_bytes 2 (2 + 4 * length (fields_of r)) ++ (word_bytes 2 (kind_number r) ++ words_bytes (fields_of r))
+record_bytes r = word_bytes 2 (2 + 4 * length (fields_of r)) ++ (word_bytes 2 (kind_number (record_kind r)) ++ words_bytes (fields_of r))
 
 -- the record of a kind with these fields
-abbrev pub record_with : Kind → List ℕ → Record
-record_with gain fields = rec.Gain (to_z w32 (get_or fields 0 0))
-record_with mono_to_stereo fields = rec.MonoToStereo
-record_with stereo_to_mono fields = rec.StereoToMono
-record_with resample fields = rec.Resample (get_or fields 0 0) (get_or fields 1 0)
-record_with dc_block fields = rec.DcBlock (get_or fields 0 0)
-record_with biquad fields = rec.Biquad (get_or fields 0 0) (record { b0 = get_or fields 1 0; b1 = get_or fields 2 0; b2 = get_or fields 3 0; a1 = get_or fields 4 0; a2 = get_or fields 5 0 })
-record_with unknown fields = rec.MonoToStereo
+abbrev pub record_with : Option Kind → List ℕ → Record
+record_with (Some kind.Gain) fields = rec.Gain (to_z w32 (get_or fields 0 0))
+record_with (Some kind.MonoToStereo) fields = rec.MonoToStereo
+record_with (Some kind.StereoToMono) fields = rec.StereoToMono
+record_with (Some kind.Resample) fields = rec.Resample (get_or fields 0 0) (get_or fields 1 0)
+record_with (Some kind.DcBlock) fields = rec.DcBlock (get_or fields 0 0)
+record_with (Some kind.Biquad) fields = rec.Biquad (get_or fields 0 0) (record { b0 = get_or fields 1 0; b1 = get_or fields 2 0; b2 = get_or fields 3 0; a1 = get_or fields 4 0; a2 = get_or fields 5 0 })
+record_with None fields = rec.MonoToStereo
 
 unfoldable pub record_of : ℕ → List ℕ → Record
 record_of kind fields = record_with (kind_numbered kind) fields
@@ -137,3 +118,9 @@ record_here left = take (2 + length_at left) left
 -- the questions of every record answered yes
 abbrev pub WholeRecords : List (List ℕ) → Type 0
 WholeRecords rs = All (λ (left : List ℕ). record_verdict left ≡ Ok tt) rs
+
+-- ---- a record's kind, as it is read
+-- the kind that has the number, or none where the number is a note's
+abbrev pub KindRead : Option Kind → ℕ → Type 0
+KindRead (Some k) number = number ≡ kind_number k
+KindRead None number = of_note number ≡ true

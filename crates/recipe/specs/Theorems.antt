@@ -12,7 +12,8 @@ use Rattle.recipe.specs.declared.Record.{Record}
 use Rattle.recipe.specs.declared.Entry.TheVariants as entry
 use Rattle.words.specs.Words.{words_bytes}
 use Rattle.words.specs.laws.Words.{word_there, words_there}
-use Rattle.recipe.specs.Records.{of_note, kind_number, fields_of, record_bytes, length_at, kind_at, record_at, record_verdict, entry_at, read_record, records}
+use Rattle.recipe.specs.Kinds.{kind_number}
+use Rattle.recipe.specs.Records.{of_note, record_kind, fields_of, record_bytes, length_at, kind_at, record_at, record_verdict, entry_at, read_record, records}
 use Rattle.recipe.specs.Notes.{notes_in, without_notes}
 use Rattle.recipe.specs.laws.Notes.{records_joined, none_taken_out}
 use Rattle.recipe.specs.laws.Records.{note_known, record_size, few_record_fields, after_next}
@@ -24,9 +25,9 @@ module _ (r : Record) (rest : List ℕ) where
   unfolding record_bytes
   length_read = word_there 2 (2 + 4 * length (fields_of r)) (omega (arith, few_record_fields r))
 
-  kind_read : kind_at (record_bytes r ++ rest) ≡ kind_number r
+  kind_read : kind_at (record_bytes r ++ rest) ≡ kind_number (record_kind r)
   unfolding record_bytes
-  kind_read = word_there 2 (kind_number r) (kind_small r)
+  kind_read = word_there 2 (kind_number (record_kind r)) (kind_small r)
 
   pub written_accepted : record_verdict (record_bytes r ++ rest) ≡ Ok tt
   unfolding record_verdict

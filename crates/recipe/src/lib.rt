@@ -2,12 +2,14 @@
 #![tactic(auto)]
 
 ghost use Rattle.std.specs.Prelude.{◌≡◌, false, ◌+◌, ◌*◌, ◌≤◌, ◌<◌, length, drop, MatchResult};
+ghost use Rattle.std.specs.Iterator.{YieldsFirstBy, item_count};
 ghost use Rattle.pcm.specs.Frames.{written};
 ghost use Rattle.words.specs.Words.{words, words_bytes};
 ghost use Rattle.std.proofs.lemmas.List.Edits.{sets};
 ghost use Rattle.pcm.specs.declared.Error.TheVariants.{UnknownStage};
-ghost use Rattle.recipe.specs.Kinds.{number_of, Numbered};
-ghost use Rattle.recipe.specs.Records.{of_note, known, kind_at, field_count, length_verdict, record_verdict, record_of, entry_at, read_record, record_bytes, kind_number, fields_of};
+ghost use Rattle.recipe.specs.Kinds.{kind_number};
+ghost use Rattle.recipe.specs.laws.Records.{after_next};
+ghost use Rattle.recipe.specs.Records.{of_stage, of_note, kind_at, field_count, record_verdict, record_of, record_kind, read_record, record_bytes, fields_of, records, KindRead};
 
 use biquad::CoefficientBits;
 use pcm::Error;
@@ -30,29 +32,21 @@ pub enum Entry {
     Note(usize),
 }
 
-// What a record is by its number: of a stage's kind, or a note. Notes have the numbers from this one on.
+// A stage's kind, with the number that its record has.
 #[derive(Clone, Copy)]
-enum Kind {
+pub enum Kind {
     Gain = 1,
     MonoToStereo = 2,
     StereoToMono = 3,
     Resample = 4,
     DcBlock = 5,
     Biquad = 6,
-    Note = 0x8000,
-}
-
-// Is a record of this kind a note?
-pub fn of_note(kind: u16) -> bool
-    ensures { result ≡ of_note kind }
-{
-    kind >= 0x8000
 }
 
 impl TryFrom<u16> for Kind {
     type Error = Error;
 
-    ghost try_from_gives = { λ number r. MatchResult r (λ kind. Numbered kind number) (λ e. (known number ≡ false) × (e ≡ UnknownStage)) };
+    ghost try_from_gives = { λ number r. MatchResult r (λ kind. number ≡ kind_number kind) (λ e. (of_stage number ≡ false) × (e ≡ UnknownStage)) };
 
     fn try_from(number: u16) -> Result<Self, Error> {
         match number {
@@ -62,117 +56,119 @@ impl TryFrom<u16> for Kind {
             4 => Ok(Kind::Resample),
             5 => Ok(Kind::DcBlock),
             6 => Ok(Kind::Biquad),
-            _ if of_note(number) => Ok(Kind::Note),
             _ => Err(Error::UnknownStage),
         }
     }
 }
 
-impl Kind {
-    // The number that it is written with.
-    fn number(self) -> u16
-        ensures { result ≡ number_of self }
-    {
-        self as u16
-    }
+impl From<Kind> for u16 {
+    ghost from_gives = { λ kind number. number ≡ kind_number kind };
 
+    fn from(kind: Kind) -> u16 {
+        kind as u16
+    }
+}
+
+impl Kind {
     // How many fields of 32 bits it has.
     fn field_count(self) -> usize
-        ensures { result ≡ field_count (number_of self) }
+        ensures { result ≡ field_count (kind_number self) }
     {
         match self {
-            Kind::MonoToStereo | Kind::StereoToMono | Kind::Note => 0,
+            Kind::MonoToStereo | Kind::StereoToMono => 0,
             Kind::Gain | Kind::DcBlock => 1,
             Kind::Resample => 2,
             Kind::Biquad => 6,
         }
     }
-
-    // Is the length one that the kind has? It counts the two bytes of the kind.
-    fn length_question(self, length: usize) -> Result<(), Error>
-        ensures { result ≡ length_verdict (number_of self) length }
-    {
-        match self {
-            Kind::Note => {
-                if length > 66 {
-                    return Err(Error::NoteTooLong);
-                }
-            }
-            _ => {
-                if length != 2 + 4 * self.field_count() {
-                    return Err(Error::RecordLength);
-                }
-            }
-        }
-        Ok(())
-    }
 }
 
-// The questions of a record's bytes, and its kind.
-#[tactic(auto, unfolding(crate::specs::Records::record_verdict), using(crate::proofs::Records::length_numbered))]
-fn record_question(left: &[u8]) -> Result<Kind, Error>
-    ensures { MatchResult result (λ kind. (record_verdict left.now ≡ Ok tt) × Numbered kind (kind_at left.now)) (λ e. record_verdict left.now ≡ Err e) }
+// Is a record of this kind a note?
+pub fn of_note(kind: u16) -> bool
+    ensures { result ≡ of_note kind }
+{
+    kind >= 0x8000
+}
+
+// The questions of a record's bytes; its kind, or none where it is a note. Lengths count the two bytes of the kind.
+#[tactic(auto, unfolding(crate::specs::Records::record_verdict))]
+fn record_question(left: &[u8]) -> Result<Option<Kind>, Error>
+    ensures { MatchResult result (λ kind. (record_verdict left.now ≡ Ok tt) × KindRead kind (kind_at left.now)) (λ e. record_verdict left.now ≡ Err e) }
 {
     if left.len() < 4 {
         return Err(Error::ShortRecord);
     }
-    let length = words::get_u16(left, 0) as usize;
+    let length = usize::from(words::get_u16(left, 0));
     if length < 2 {
         return Err(Error::ShortRecord);
     }
-    let kind = Kind::try_from(words::get_u16(left, 2))?;
-    kind.length_question(length)?;
+    let number = words::get_u16(left, 2);
+    let kind = if of_note(number) {
+        if length > 66 {
+            return Err(Error::NoteTooLong);
+        }
+        None
+    } else {
+        let kind = Kind::try_from(number)?;
+        if length != 2 + 4 * kind.field_count() {
+            return Err(Error::RecordLength);
+        }
+        Some(kind)
+    };
     if left.len() < 2 + length {
         return Err(Error::ShortRecord);
     }
     Ok(kind)
 }
 
-// What a record of this kind is whose questions were all answered yes. Its fields start at the fifth byte.
-#[tactic(auto, using(crate::proofs::Records::kind_there))]
-fn entry_of(kind: Kind, left: &[u8]) -> Entry
-    requires { (record_verdict left.now ≡ Ok tt) × Numbered kind (kind_at left.now) }
-    ensures { result ≡ entry_at left.now }
-{
-    match kind {
-        Kind::Gain => Entry::Stage(Record::Gain {
-            q15: words::get_i32(left, 4),
-        }),
-        Kind::MonoToStereo => Entry::Stage(Record::MonoToStereo),
-        Kind::StereoToMono => Entry::Stage(Record::StereoToMono),
-        Kind::Resample => Entry::Stage(Record::Resample {
-            in_rate: words::get_u32(left, 4),
-            out_rate: words::get_u32(left, 8),
-        }),
-        Kind::DcBlock => Entry::Stage(Record::DcBlock {
-            corner: words::get_u32(left, 4),
-        }),
-        Kind::Biquad => Entry::Stage(Record::Biquad {
-            rate: words::get_u32(left, 4),
-            bits: CoefficientBits {
-                b0: words::get_u32(left, 8),
-                b1: words::get_u32(left, 12),
-                b2: words::get_u32(left, 16),
-                a1: words::get_u32(left, 20),
-                a2: words::get_u32(left, 24),
-            },
-        }),
-        Kind::Note => Entry::Note(words::get_u16(left, 0) as usize - 2),
-    }
-}
-
 impl Record {
+    // The record of this kind, with the fields that start at the fifth byte.
+    #[tactic(auto, unfolding(crate::specs::Records::record_of))]
+    fn of_kind(kind: Kind, left: &[u8]) -> Record
+        requires { 4 + 4 * field_count (kind_number kind) ≤ length left.now }
+        ensures { result ≡ record_of (kind_number kind) (words (field_count (kind_number kind)) (drop 4 left.now)) }
+    {
+        match kind {
+            Kind::Gain => Record::Gain {
+                q15: words::get_i32(left, 4),
+            },
+            Kind::MonoToStereo => Record::MonoToStereo,
+            Kind::StereoToMono => Record::StereoToMono,
+            Kind::Resample => Record::Resample {
+                in_rate: words::get_u32(left, 4),
+                out_rate: words::get_u32(left, 8),
+            },
+            Kind::DcBlock => Record::DcBlock {
+                corner: words::get_u32(left, 4),
+            },
+            Kind::Biquad => Record::Biquad {
+                rate: words::get_u32(left, 4),
+                bits: CoefficientBits {
+                    b0: words::get_u32(left, 8),
+                    b1: words::get_u32(left, 12),
+                    b2: words::get_u32(left, 16),
+                    a1: words::get_u32(left, 20),
+                    a2: words::get_u32(left, 24),
+                },
+            },
+        }
+    }
+
     // The record at the front of the bytes that are left.
-    #[tactic(auto, unfolding(crate::specs::Records::read_record))]
+    #[tactic(auto, unfolding(crate::specs::Records::read_record), using(crate::proofs::Entries::kind_there, crate::proofs::Entries::stage_read, crate::proofs::Entries::note_entry, crate::proofs::Entries::two_there))]
     pub fn read(left: &[u8]) -> Result<Entry, Error>
         ensures { result ≡ read_record left.now }
     {
         let kind = record_question(left)?;
-        Ok(entry_of(kind, left))
+        match kind {
+            Some(kind) => Ok(Entry::Stage(Record::of_kind(kind, left))),
+            None => Ok(Entry::Note(usize::from(words::get_u16(left, 0)) - 2)),
+        }
     }
 
+    // Its kind.
     fn kind(self) -> Kind
-        ensures { number_of result ≡ kind_number self }
+        ensures { result ≡ record_kind self }
     {
         match self {
             Record::Gain { .. } => Kind::Gain,
@@ -224,7 +220,42 @@ impl Record {
         ensures { out.new ≡ written (record_bytes self) out.old }
     {
         words::put_u16(out, 0, (self.size() - 2) as u16);
-        words::put_u16(out, 2, self.kind().number());
+        words::put_u16(out, 2, u16::from(self.kind()));
         self.write_fields(out);
+    }
+}
+
+// The records of bytes, in order: of each the bytes that are left at its first. The last may be cut short.
+#[derive(Drop)]
+pub struct Records<'a> {
+    pub left: &'a [u8],
+}
+
+// What follows the record at the front.
+fn after_next(left: &[u8]) -> &[u8]
+    ensures { result.now ≡ after_next left.now }
+{
+    if left.len() < 2 {
+        return &left[left.len()..];
+    }
+    let size = 2 + usize::from(words::get_u16(left, 0));
+    &left[size.min(left.len())..]
+}
+
+impl<'a> Iterator for Records<'a> {
+    type Item = &'a [u8];
+
+    ghost next_gives = { YieldsFirstBy (λ bytes. bytes.now) (λ s. records s.left.now) };
+
+    ghost remaining = { item_count (λ s. records s.left.now) };
+
+    #[tactic(auto, using(crate::specs::laws::Records::records_end, crate::specs::laws::Records::records_next))]
+    fn next(&mut self) -> Option<&'a [u8]> {
+        let left = self.left;
+        if left.is_empty() {
+            return None;
+        }
+        self.left = after_next(left);
+        Some(left)
     }
 }

@@ -10,6 +10,67 @@ mod calls;
 mod input;
 mod output;
 
+// The calls that a script may ask for.
+#[derive(Clone, Copy)]
+enum Command {
+    Open,
+    Block,
+    Reset,
+    WriteRecipe,
+    ScratchBytes,
+    OutputFormat,
+    Mix,
+    MaxOutputFrames,
+    Pole,
+    Design,
+    FromQ15,
+    Linear,
+    RoundSat16,
+    Sat16,
+    Finish,
+    BlockRoom,
+    FinishRoom,
+}
+
+impl TryFrom<u8> for Command {
+    type Error = io::Error;
+
+    // By the byte that it begins with.
+    fn try_from(byte: u8) -> io::Result<Self> {
+        match byte {
+            0x01 => Ok(Command::Open),
+            0x02 => Ok(Command::Block),
+            0x03 => Ok(Command::Reset),
+            0x04 => Ok(Command::WriteRecipe),
+            0x05 => Ok(Command::ScratchBytes),
+            0x06 => Ok(Command::OutputFormat),
+            0x07 => Ok(Command::Mix),
+            0x08 => Ok(Command::MaxOutputFrames),
+            0x09 => Ok(Command::Pole),
+            0x0a => Ok(Command::Design),
+            0x0b => Ok(Command::FromQ15),
+            0x0c => Ok(Command::Linear),
+            0x0d => Ok(Command::RoundSat16),
+            0x0e => Ok(Command::Sat16),
+            0x10 => Ok(Command::Finish),
+            0x11 => Ok(Command::BlockRoom),
+            0x12 => Ok(Command::FinishRoom),
+            _ => Err(ErrorKind::InvalidData.into()),
+        }
+    }
+}
+
+// The most bytes that a command may bring at one place.
+const MAX_BYTES: usize = 262144;
+
+// Where the bytes of a command are put.
+#[derive(Drop)]
+pub struct Buffers {
+    pub sound: [u8; MAX_BYTES],
+    pub a: [u8; MAX_BYTES],
+    pub b: [u8; MAX_BYTES],
+}
+
 // The script that is read, what its answers go to, and the chain in use.
 #[derive(Drop)]
 pub struct Replay<I, O> {
@@ -19,44 +80,38 @@ pub struct Replay<I, O> {
 }
 
 impl<I: Read, O: Write> Replay<I, O> {
-    // One command and its answer; an error where the script goes no further.
-    fn command(
-        &mut self,
-        code: u8,
-        sound: &mut [u8],
-        a: &mut [u8],
-        b: &mut [u8],
-    ) -> io::Result<()> {
-        match code {
-            0x01 => self.open(sound),
-            0x02 => self.block(sound, a, b),
-            0x03 => self.reset(),
-            0x04 => self.write_recipe(sound),
-            0x05 => self.scratch_bytes(),
-            0x06 => self.output_format(),
-            0x07 => self.mix(sound, a, b),
-            0x08 => self.max_output_frames(),
-            0x09 => self.pole(),
-            0x0a => self.design(),
-            0x0b => self.from_q15(),
-            0x0c => self.linear(),
-            0x0d => self.round_sat16(),
-            0x0e => self.sat16(),
-            0x10 => self.finish(a, b),
-            0x11 => self.block_room(),
-            0x12 => self.finish_room(),
-            _ => Err(ErrorKind::InvalidData.into()),
+    // The command that begins with this byte, and its answer; an error where the script goes no further.
+    // Kept: a match, one line a command; a table of functions is no shorter, and they are not lent the same buffers.
+    fn answer(&mut self, byte: u8, buffers: &mut Buffers) -> io::Result<()> {
+        match Command::try_from(byte)? {
+            Command::Open => self.open(&mut buffers.sound),
+            Command::Block => self.block(buffers),
+            Command::Reset => self.reset(),
+            Command::WriteRecipe => self.write_recipe(&mut buffers.sound),
+            Command::ScratchBytes => self.scratch_bytes(),
+            Command::OutputFormat => self.output_format(),
+            Command::Mix => self.mix(buffers),
+            Command::MaxOutputFrames => self.max_output_frames(),
+            Command::Pole => self.pole(),
+            Command::Design => self.design(),
+            Command::FromQ15 => self.from_q15(),
+            Command::Linear => self.linear(),
+            Command::RoundSat16 => self.round_sat16(),
+            Command::Sat16 => self.sat16(),
+            Command::Finish => self.finish(buffers),
+            Command::BlockRoom => self.block_room(),
+            Command::FinishRoom => self.finish_room(),
         }
     }
 
     // The script's commands in turn, then the end mark where it goes no further. A proved loop has to end, so it counts up to a number
     // that no script reaches.
-    fn run(&mut self, sound: &mut [u8], a: &mut [u8], b: &mut [u8]) -> io::Result<()> {
+    fn run(&mut self, buffers: &mut Buffers) -> io::Result<()> {
         for _ in 0..u64::MAX {
-            let Ok(code) = self.fields::<1>() else {
+            let Ok(byte) = self.field() else {
                 return Ok(());
             };
-            if self.command(code[0], sound, a, b).is_err() {
+            if self.answer(u8::from_le_bytes(byte), buffers).is_err() {
                 return self.put_end_mark();
             }
         }
@@ -77,8 +132,9 @@ fn main(rt: HostRuntime) -> io::Result<()> {
         answers: rt.stdout(),
         chain,
     };
-    let mut sound = [0u8; 262144];
-    let mut a = [0u8; 262144];
-    let mut b = [0u8; 262144];
-    replay.run(&mut sound, &mut a, &mut b)
+    replay.run(&mut Buffers {
+        sound: [0; MAX_BYTES],
+        a: [0; MAX_BYTES],
+        b: [0; MAX_BYTES],
+    })
 }

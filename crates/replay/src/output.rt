@@ -1,5 +1,7 @@
 // The fields of an answer, written low byte first.
 use crate::Replay;
+use pcm::{Error, PcmFormat, Saturated};
+use room::RoomTold;
 use std::io;
 use std::io::Write;
 
@@ -9,9 +11,14 @@ impl<I, O: Write> Replay<I, O> {
         self.answers.write_all(&field)
     }
 
+    // A count in eight bytes.
+    pub fn put_count(&mut self, n: usize) -> io::Result<()> {
+        self.put((n as u64).to_le_bytes())
+    }
+
     // A length, of which four bytes are written.
     pub fn put_length(&mut self, n: usize) -> io::Result<()> {
-        self.put(((n % 4294967296) as u32).to_le_bytes())
+        self.put(((n % 0x1_0000_0000) as u32).to_le_bytes())
     }
 
     // A length and so many bytes.
@@ -25,8 +32,43 @@ impl<I, O: Write> Replay<I, O> {
         self.put(floats::bits_of_float(x).to_le_bytes())
     }
 
+    // A sample, and 1 where it was held back.
+    pub fn put_sample(&mut self, s: Saturated) -> io::Result<()> {
+        self.put(s.sample.to_le_bytes())?;
+        self.put([u8::from(s.clipped)])
+    }
+
+    // Rate and channels.
+    pub fn put_format(&mut self, format: PcmFormat) -> io::Result<()> {
+        self.put(format.rate.to_le_bytes())?;
+        self.put(format.channels.to_le_bytes())
+    }
+
+    // 0 and a count, or a refusal's number and 0.
+    pub fn put_value(&mut self, answer: Result<usize, Error>) -> io::Result<()> {
+        let (number, value) = match answer {
+            Ok(value) => (0, value),
+            Err(e) => (e.number(), 0),
+        };
+        self.put(number.to_le_bytes())?;
+        self.put_count(value)
+    }
+
+    // Number and frames of a room known beforehand, and the bytes of one half.
+    pub fn put_room(&mut self, t: RoomTold) -> io::Result<()> {
+        self.put(t.number.to_le_bytes())?;
+        self.put_count(t.frames)?;
+        self.put_count(t.half)
+    }
+
+    // The counters of the chain in use.
+    pub fn put_counters(&mut self) -> io::Result<()> {
+        self.put(self.chain.blocks.to_le_bytes())?;
+        self.put(self.chain.empty_blocks.to_le_bytes())
+    }
+
     // The mark of a script that goes no further.
     pub fn put_end_mark(&mut self) -> io::Result<()> {
-        self.put([255])
+        self.put([0xff])
     }
 }

@@ -75,10 +75,10 @@ module _ (ch i o : ℕ) (s : ResamplerState) (input out₀ : List ℕ) (r : Read
     phase_carried = past_frames o (num + d.frames * i) d.at l.place (length input / (ch * 2)) past_block ∙ ap (λ (k : ℕ). num + k * i - length input / (ch * 2) * o) frames_counted
 
     -- what the way past the block asks
-    pub past_ready : start o s.primed s.phase < 2 ^ 64 → (Parts o d.at × (o ≤ 384000))
+    pub past_ready : start o s.primed s.phase < 2 ^ 64 → Parts o d.at
         × ((length input / (ch * 2) ≤ d.at.frame) × ((d.at.frame - length input / (ch * 2)) * o + (d.at.frac * o + d.at.over) / 4294967296 < 2 ^ 64))
     past_ready h = (
-      (l.place.parts, r.out_r.1),
+      l.place.parts,
       (past_block, omega (arith, phase_carried, past_below i r.in_r.0 (2 ^ 64) num (length input / (ch * 2) * o) (omega (arith, r.in_r.1)) h)),
     )
 

@@ -6,18 +6,18 @@ use Rattle.resample.specs.Value.{frac}
 use Rattle.resample.specs.declared.Position.{Position}
 use Rattle.resample.specs.Place.{At, Sum}
 
-pub at_new : (o num : ℕ) → 0 < o → At o num (record { frame = num / o; frac = frac o (num % o); over = num % o * 4294967296 % o })
-at_new o num h = record {
+pub at_new : (o num : ℕ) → 0 < o → o ≤ 384000 → At o num (record { frame = num / o; frac = frac o (num % o); over = num % o * 4294967296 % o })
+at_new o num h m = record {
   is = omega (arith, div-add-mod' num o, div-add-mod' (num % o * 4294967296) o);
-  parts = record { small = (div-lt_iff_lt-mul h).1 (omega (arith, mod-lt num h)); rest = mod-lt (num % o * 4294967296) h };
+  parts = record { limit = m; small = (div-lt_iff_lt-mul h).1 (omega (arith, mod-lt num h)); rest = mod-lt (num % o * 4294967296) h };
 }
 
 -- with the out_r-ths f * out_r + v brought below out_r and the 2^32nds below 2^32
-pub sum_is : (o : ℕ) (p s : Position) (f v : ℕ) → f * o + v ≡ (p.frac + s.frac) * o + (p.over + s.over) → v < o
+pub sum_is : (o : ℕ) (p s : Position) (f v : ℕ) → f * o + v ≡ (p.frac + s.frac) * o + (p.over + s.over) → v < o → o ≤ 384000
     → Sum o p s (record { frame = p.frame + s.frame + f / 4294967296; frac = f % 4294967296; over = v })
-sum_is o p s f v e h = record {
+sum_is o p s f v e h m = record {
   is = omega (arith, e, ap (λ (x : ℕ). x * o) (div-add-mod' f 4294967296));
-  parts = record { small = omega arith; rest = h };
+  parts = record { limit = m; small = omega arith; rest = h };
 }
 
 pub at_sum : (o a b : ℕ) (p s r : Position) → At o a p → At o b s → Sum o p s r → At o (a + b) r

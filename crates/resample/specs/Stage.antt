@@ -1,5 +1,6 @@
 -- A block of bytes through the stage, over the channel count: what a call needs and what it promises. Assumes nothing.
 use Rattle.std.specs.Prelude.{◌≡◌, List, ℕ, suc, ◌+◌, ◌*◌, ◌%◌, ◌≤◌, ◌<◌, length}
+use Rattle.pcm.specs.Formats.{OneOrTwo}
 use Rattle.pcm.specs.Frames.{Frame, bytes_of, written}
 use Rattle.rates.specs.Counting.{tabulate}
 use Rattle.resample.specs.Value.{interpolated}
@@ -11,7 +12,7 @@ use Rattle.resample.specs.declared.Resampled.{Resampled}
 
 -- whole frames of one or two channels, at least one, rates of 1 to 384,000, and room for the frames fs
 pub record Ready (ch i o : ℕ) (fs : List Frame) (input out : List ℕ) : Type 0 where
-  pub channels : (0 < ch) × (ch ≤ 2)
+  pub channels : OneOrTwo ch
   pub in_r : (0 < i) × (i ≤ 384000)
   pub out_r : (0 < o) × (o ≤ 384000)
   pub some : 0 < length input
@@ -32,7 +33,7 @@ pub record Looped (i o num : ℕ) (fs : List Frame) (out₀ out : List ℕ) (d :
 
 -- whole frames of one or two channels
 pub record Whole (ch : ℕ) (input : List ℕ) : Type 0 where
-  pub channels : (0 < ch) × (ch ≤ 2)
+  pub channels : OneOrTwo ch
   pub whole : length input % (ch * 2) ≡ 0
 
 -- the frame f / 2^32 of the way from frame g of X to the one after it

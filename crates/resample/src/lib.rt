@@ -56,9 +56,10 @@ impl Position {
     }
 
     // The sum of two positions: no division.
+    // Kept: `out_r` beside the positions, here and below: it is the stage's, and in each of two positions it would have to be the same.
     #[tactic(auto, using(crate::proofs::Place::sum_is))]
     fn advance(self, step: Position, out_r: u64) -> Position
-        requires { (Parts out_r self × Parts out_r step) × ((out_r ≤ 384000) × (self.frame + step.frame + 1 < 2 ^ 64)) }
+        requires { Parts out_r self × Parts out_r step × (self.frame + step.frame + 1 < 2 ^ 64) }
         ensures { Sum out_r self step result }
     {
         let mut frac = self.frac + step.frac;
@@ -76,7 +77,7 @@ impl Position {
 
     // How far it lies past n frames, in out_r-ths of a frame.
     fn past(self, n: usize, out_r: u64) -> u64
-        requires { (Parts out_r self × (out_r ≤ 384000)) × ((n ≤ self.frame) × ((self.frame - n) * out_r + (self.frac * out_r + self.over) / 2 ^ 32 < 2 ^ 64)) }
+        requires { Parts out_r self × ((n ≤ self.frame) × ((self.frame - n) * out_r + (self.frac * out_r + self.over) / 2 ^ 32 < 2 ^ 64)) }
         ensures { result ≡ (self.frame - n) * out_r + (self.frac * out_r + self.over) / 2 ^ 32 }
     {
         let frames = self.frame - n;
@@ -173,7 +174,7 @@ fn resample<const C: usize>(
     requires { Ready C r.in_r r.out_r (carried_outputs r.in_r r.out_r s (frames_of C input.now)) input.now out.old }
     ensures { Processed (carried_outputs r.in_r r.out_r s (frames_of C input.now)) (carried_state r.in_r r.out_r s (frames_of C input.now)) out.old out.new result }
 {
-    let num = rates::first_position(r.out_r, s.primed, s.phase);
+    let num = s.first_position(r.out_r);
     let d = run::<C>(r, num, s.last, input, out);
     Resampled {
         frames: d.frames,

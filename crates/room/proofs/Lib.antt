@@ -1,3 +1,4 @@
+mod Heads
 mod Telling
 pub mod laws
 pub mod Theorems

@@ -8,8 +8,6 @@ use Rattle.pipeline.specs.declared.Pipeline.{Pipeline}
 use Rattle.pipeline.specs.Reset.{format_leaving}
 use Rattle.pipeline.specs.WritingBack.{stages_of}
 use Rattle.turns.specs.Turns.{halves}
-use Rattle.answers.specs.declared.Answer.TheVariants as answer
-use Rattle.answers.specs.declared.FinishAnswer.TheVariants as finish
 use Rattle.answers.specs.Answers.{last_half, output_answer}
 use Rattle.answers.specs.FinishAnswers.{finish_answer}
 use Rattle.block.specs.Chain.{chain_out}
@@ -49,9 +47,9 @@ pub record BlockKnown (c : Pipeline) (n frames half : ℕ) : Type 0 where
   pub smallest : Smallest (block_verdict c c.format (n * frame_bytes c)) half
   pub delivers : (timestamp : ℕ) (bytes a b : List ℕ) → Bytes bytes → length bytes ≡ n * frame_bytes c → half ≤ length a → half ≤ length b
       → (block_call c c.format timestamp bytes a b ≡ accepted c timestamp bytes (halves a b))
-      × ((block_call c c.format timestamp bytes a b).answer ≡ output_answer (format_leaving c.format (stages_of c)) timestamp (last_half c.count) (frames * leaving_bytes c) (block_clipped c bytes))
+      × ((block_call c c.format timestamp bytes a b).answer ≡ Ok (output_answer (format_leaving c.format (stages_of c)) timestamp (last_half c.count) (frames * leaving_bytes c) (block_clipped c bytes)))
   pub refused : (timestamp : ℕ) (bytes a b : List ℕ) → length bytes ≡ n * frame_bytes c → 0 < half → length a ≡ half - 1 → length b ≡ half - 1
-      → block_call c c.format timestamp bytes a b ≡ record { chain = c; answer = answer.Refused (BufferTooSmall (2 * half)); a = a; b = b }
+      → block_call c c.format timestamp bytes a b ≡ record { chain = c; answer = Err (BufferTooSmall (2 * half)); a = a; b = b }
 
 -- ---- 'The same for finish'
 pub record FinishKnown (c : Pipeline) (frames half : ℕ) : Type 0 where
@@ -59,9 +57,9 @@ pub record FinishKnown (c : Pipeline) (frames half : ℕ) : Type 0 where
   pub smallest : Smallest (finish_verdict c) half
   pub delivers : (a b : List ℕ) → half ≤ length a → half ≤ length b
       → (finish_call c a b ≡ finished c (halves a b))
-      × ((finish_call c a b).answer ≡ finish_answer (format_leaving c.format (stages_of c)) (last_half c.count) (frames * leaving_bytes c) (finish_clipped c))
+      × ((finish_call c a b).answer ≡ Ok (finish_answer (format_leaving c.format (stages_of c)) (last_half c.count) (frames * leaving_bytes c) (finish_clipped c)))
   pub refused : (a b : List ℕ) → 0 < half → length a ≡ half - 1 → length b ≡ half - 1
-      → finish_call c a b ≡ record { chain = c; answer = finish.Refused (BufferTooSmall (2 * half)); a = a; b = b }
+      → finish_call c a b ≡ record { chain = c; answer = Err (BufferTooSmall (2 * half)); a = a; b = b }
 
 -- ---- the answers, and what is then so
 pub record BlockBeforehand (c : Pipeline) (n : ℕ) : Type 0 where

@@ -1,7 +1,7 @@
 -- The room known beforehand (document 02, Q-5). Definitions only.
 use Rattle.pcm.specs.declared.Error.{Error}
 use Rattle.room.specs.declared.Room.{Room}
-use Rattle.std.specs.Prelude.{ℕ, ◌*◌, leb, ltb, Ok, Err, Result}
+use Rattle.std.specs.Prelude.{ℕ, cond, ◌*◌, leb, ltb, Ok, Err, Result}
 use Rattle.pcm.specs.declared.Error.TheVariants.{InvalidFormat, InvalidGeometry, TooLong}
 use Rattle.pcm.specs.Refusals.{ask, number_of, if_accepted, refusal, Verdict}
 use Rattle.pipeline.specs.declared.Pipeline.{Pipeline}
@@ -9,14 +9,14 @@ use Rattle.pipeline.specs.WritingBack.{stages_of}
 use Rattle.questions.specs.declared.Question.{Question}
 use Rattle.questions.specs.declared.Question.TheVariants.{Block, Finish}
 use Rattle.questions.specs.declared.Walk.{Walk}
-use Rattle.questions.specs.Walk.{begun, walked}
+use Rattle.questions.specs.Walk.{begun, along}
 use Rattle.block.specs.BlockCall.{legal}
 use Rattle.room.specs.declared.RoomTold.{RoomTold}
 
 -- ---- what the stages of the chain in its present state will want and deliver, where `size` bytes arrive: by the one walk that asks a call's
 -- questions; no half is lent
 unfoldable pub found : Question → Pipeline → ℕ → Walk
-found q c size = walked q 0 (begun c.format c.count size 0) (stages_of c)
+found q c size = along q 0 (begun c.format c.count size 0) (stages_of c)
 
 -- of a block of n frames
 abbrev pub block_found : Pipeline → ℕ → Walk
@@ -25,6 +25,10 @@ block_found c n = found Block c (n * (c.format.channels * 2))
 -- of a finish, in which nothing arrives
 abbrev pub finish_found : Pipeline → Walk
 finish_found c = found Finish c 0
+
+-- and where one of them is not legal, 1 in its place
+abbrev pub if_legal : Pipeline → Walk → Result Walk Error
+if_legal c w = cond (legal c) (Ok w) (Err InvalidFormat)
 
 -- ---- the questions
 -- 'A frame count outside the limits gets 4 for none and 10 for too many'

@@ -2,22 +2,33 @@
 // and no room is lent.
 #![tactic(auto)]
 
-ghost use Rattle.std.specs.Prelude.{◌≡◌, true, ◌≤◌, ◌<◌};
-ghost use Rattle.pcm.specs.declared.Error.TheVariants.{InvalidFormat};
-ghost use Rattle.pcm.specs.Refusals.{ask};
-ghost use Rattle.questions.specs.Walk.{head_legal, sized_from};
+ghost use Rattle.std.specs.Prelude.{◌≡◌, ◌≤◌};
+ghost use Rattle.chains.specs.Chains.{Headed};
 ghost use Rattle.room.specs.Asked.{asked_frames, asked_bytes};
-ghost use Rattle.room.specs.Room.{found, room_answer, block_room, finish_room, room_told, block_room_told, finish_room_told};
+ghost use Rattle.room.specs.Room.{found, if_legal, block_room, finish_room, room_told, block_room_told, finish_room_told};
 
+use chains::{Chain, Head};
 use pcm::{Error, PcmFormat};
 use pipeline::Pipeline;
-use questions::{Question, Walk};
+use questions::{Asking, Question, Walk};
 
 // The frames that leave the last stage, 0 where that would be 'nothing yet', and the bytes of each of the smallest two equal halves.
 #[derive(Clone, Copy)]
 pub struct Room {
     pub frames: usize,
     pub half: usize,
+}
+
+impl From<Walk> for Room {
+    ghost from_gives = { λ walk known. known ≡ record { frames = walk.frames; half = walk.largest } };
+
+    // What a walk has found that came to its end.
+    fn from(walk: Walk) -> Room {
+        Room {
+            frames: walk.frames,
+            half: walk.largest,
+        }
+    }
 }
 
 // Number and values of it: a value that there is not is 0.
@@ -65,67 +76,54 @@ pub fn asked_bytes(format: PcmFormat, frames: usize) -> usize
     asked_frames(frames) * format.frame_bytes()
 }
 
-// What a walk whose questions were answered yes has found.
-fn known(walk: Walk) -> Room
-    ensures { result ≡ record { frames = walk.frames; half = walk.largest } }
-{
-    Room {
-        frames: walk.frames,
-        half: walk.largest,
-    }
-}
-
-// After the walk that asks a block's questions: is every stage legal, and the size?
-pub fn of_block(format: PcmFormat, size: usize, walk: Walk) -> Result<Room, Error>
-    requires { 0 < format.channels }
-    ensures { result ≡ room_answer (sized_from format size walk) walk }
-{
-    questions::sized(format, size, walk)?;
-    Ok(known(walk))
-}
-
-// After the walk that asks a finish's: is every stage legal?
-pub fn of_finish(walk: Walk) -> Result<Room, Error>
-    ensures { result ≡ room_answer (ask walk.legal InvalidFormat (Ok tt)) walk }
-{
-    if !walk.legal {
-        return Err(Error::InvalidFormat);
-    }
-    Ok(known(walk))
-}
-
 // What the walk that asks finds of a call in which `size` bytes arrive.
-#[tactic(auto, unfolding(crate::specs::Room::found), using(block::specs::laws::Asking::head_parts))]
-fn walked(chain: Pipeline, question: Question, size: usize) -> Walk
-    requires { head_legal chain.format chain.count ≡ true }
-    ensures { result ≡ found question chain size }
+#[tactic(auto, using(crate::specs::laws::Asked::walked_found))]
+fn walked<C: Chain>(chain: &C, own: Head, question: Question, size: usize) -> Result<Walk, Error>
+    requires { Headed (C.chain chain.now) own }
+    ensures { result ≡ if_legal (C.chain chain.now) (found question (C.chain chain.now) size) }
 {
-    let start = questions::begun(chain.format, chain.count, size, 0);
-    block::walked(chain, question, 0, start)
+    let asking = Asking {
+        question,
+        shorter: 0,
+    };
+    let start = asking.begun(own.format, own.count, size);
+    block::walked(chain, own, asking, start)
 }
 
-// What a block of so many frames will bring, whatever its bytes.
-#[tactic(auto, using(crate::proofs::Telling::block_told_lem, crate::specs::laws::Asked::block_room_is, crate::specs::laws::Asked::block_room_refused, block::specs::laws::Walking::head_illegal, block::specs::laws::Asking::head_parts))]
+// What a block of so many frames will bring to a chain, however it is kept, whatever its bytes.
+pub fn block_room_of<C: Chain>(chain: &C, frames: usize) -> Result<Room, Error>
+    ensures { result ≡ block_room (C.chain chain.now) frames }
+{
+    let own = chain.head()?;
+    let size = asked_bytes(own.format, frames);
+    let walk = walked(chain, own, Question::Block, size)?;
+    questions::size_question(own.format, size)?;
+    Ok(walk.into())
+}
+
+// The same of a chain by value, as document 01 carries it.
+#[tactic(auto, using(crate::proofs::Telling::block_told_lem))]
 pub fn block_room(chain: Pipeline, frames: usize) -> Result<Room, Error>
     ensures all { result ≡ block_room chain frames }
     ensures told { room_told result ≡ block_room_told chain frames }
 {
-    let own = chain.format;
-    if !questions::head_legal(own, chain.count) {
-        return Err(Error::InvalidFormat);
-    }
-    let size = asked_bytes(own, frames);
-    of_block(own, size, walked(chain, Question::Block, size))
+    block_room_of(&chain, frames)
 }
 
-// What a finish will bring.
-#[tactic(auto, using(crate::proofs::Telling::finish_told_lem, crate::specs::laws::Asked::finish_room_is, crate::specs::laws::Asked::finish_room_refused, block::specs::laws::Walking::head_illegal))]
+// What a finish will bring to a chain, however it is kept.
+pub fn finish_room_of<C: Chain>(chain: &C) -> Result<Room, Error>
+    ensures { result ≡ finish_room (C.chain chain.now) }
+{
+    let own = chain.head()?;
+    let walk = walked(chain, own, Question::Finish, 0)?;
+    Ok(walk.into())
+}
+
+// The same of a chain by value, as document 01 carries it.
+#[tactic(auto, using(crate::proofs::Telling::finish_told_lem))]
 pub fn finish_room(chain: Pipeline) -> Result<Room, Error>
     ensures all { result ≡ finish_room chain }
     ensures told { room_told result ≡ finish_room_told chain }
 {
-    if !questions::head_legal(chain.format, chain.count) {
-        return Err(Error::InvalidFormat);
-    }
-    of_finish(walked(chain, Question::Finish, 0))
+    finish_room_of(&chain)
 }

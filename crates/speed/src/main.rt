@@ -5,7 +5,7 @@
 ghost use Rattle.std.specs.Prelude.{◌<◌, ◌≤◌};
 
 use answers::Answer;
-use pcm::PcmFormat;
+use pcm::{Error, PcmFormat};
 use pipeline::Pipeline;
 use std::io;
 
@@ -40,16 +40,17 @@ struct Tally {
 
 impl Tally {
     // An answer's output in the tally: every byte in the first pass, later its end.
-    fn with(self, first: bool, answer: Answer, a: &[u8], b: &[u8]) -> Tally {
+    fn with(self, first: bool, answer: Result<Answer<u64>, Error>, a: &[u8], b: &[u8]) -> Tally {
         match answer {
-            Answer::Output {
-                format,
-                timestamp: _,
-                half,
-                len,
-                clipped,
-            } => {
-                let out = answers::output(a, b, half, len);
+            Ok(
+                answer @ Answer::Output {
+                    format,
+                    len,
+                    clipped,
+                    ..
+                },
+            ) => {
+                let out = answer.output(a, b);
                 let checksum = end_summed(self.checksum, out);
                 Tally {
                     frames: self
@@ -63,12 +64,12 @@ impl Tally {
                     clipped: self.clipped.wrapping_add(clipped as u64),
                 }
             }
-            Answer::NothingYet { clipped } => Tally {
+            Ok(Answer::NothingYet { clipped }) => Tally {
                 checksum: summed(self.checksum, 0),
                 clipped: self.clipped.wrapping_add(clipped as u64),
                 ..self
             },
-            Answer::Refused(e) => Tally {
+            Err(e) => Tally {
                 checksum: summed(self.checksum, u32::from(e.number())),
                 ..self
             },
@@ -82,7 +83,7 @@ impl Tally {
     }
 }
 
-// The bytes of a frame.
+// The bytes of a frame. Kept beside `PcmFormat::frame_bytes`, which is 0 where there are no channels: here it divides.
 fn frame_bytes(channels: u16) -> usize
     ensures { (0 < result) × (result ≤ 4) }
 {

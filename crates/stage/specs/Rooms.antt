@@ -2,6 +2,7 @@
 -- Assumes nothing.
 use Rattle.std.specs.Prelude.{◌≡◌, Bool, true, ◌&&◌, List, ℕ, ◌*◌, ◌/◌, ◌%◌, ◌≤◌, ◌<◌, eqb, leb, ltb, length}
 use Rattle.pcm.specs.declared.PcmFormat.{PcmFormat}
+use Rattle.pcm.specs.Formats.{OneOrTwo}
 use Rattle.pcm.specs.Samples.{Samples}
 use Rattle.pcm.specs.Frames.{Frame, FramesOf, bytes_of, written}
 use Rattle.gain.specs.Gain.{factor_allowed}
@@ -57,6 +58,10 @@ pub record Resamples (f : PcmFormat) (r : LinearResampler) (m : SoundMemory) : T
   pub reached : f.rate ≡ r.in_rate
   pub phase : m.resampler.phase < r.in_r
 
+-- no more frames than reach a stage of a chain: (8,192 + 768,000 * 8) * 384,000 is less
+abbrev pub FewFrames : ℕ → Type 0
+FewFrames frames = frames ≤ 2400000000000
+
 -- a resampler's rates are within their limits; other kinds have none
 abbrev pub Bounded : StageKind → Type 0
 Bounded (kind.Gain g) = Unit {0}
@@ -79,7 +84,7 @@ Held (kind.Biquad b) m = Unit {0}
 -- whole frames of one or two channels to read, at least one, in a format that suits the stage, and room for what it delivers
 pub record Served (f : PcmFormat) (s : Stage) (source target : List ℕ) : Type 0 where
   pub suit : stage_suits f s.kind s.memory ≡ true
-  pub channels : (0 < f.channels) × (f.channels ≤ 2)
+  pub channels : OneOrTwo f.channels
   pub some : 0 < length source
   pub whole : length source % (f.channels * 2) ≡ 0
   pub room : frames_out s.kind s.memory (length source / (f.channels * 2)) * ((format_after f s.kind).channels * 2) ≤ length target

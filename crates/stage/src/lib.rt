@@ -3,7 +3,7 @@
 
 ghost use Rattle.std.specs.Prelude.{◌≡◌, true, false, ◌&&◌, ◌*◌, ◌≤◌, eqb, leb, ltb, length};
 ghost use Rattle.pcm.specs.Samples.{Samples};
-ghost use Rattle.stage.specs.Rooms.{rates_suit, stage_suits, frames_out, frames_wanted, Bounded};
+ghost use Rattle.stage.specs.Rooms.{rates_suit, stage_suits, frames_out, frames_wanted, Bounded, FewFrames};
 ghost use Rattle.stage.specs.Stages.{format_after, memory_as_opened, remembers, stage_as_opened, stage_clear};
 
 use biquad::Biquad;
@@ -135,12 +135,12 @@ fn resampler_suits(rate: u32, r: LinearResampler, phase: u64) -> bool
 // How many frames a stage delivers of so many, from the phase alone.
 #[tactic(auto, unfolding(crate::specs::Rooms::frames_out))]
 pub fn frames_out(stage: Stage, frames: usize) -> usize
-    requires { (frames ≤ 2400000000000) × Bounded stage.kind }
+    requires { FewFrames frames × Bounded stage.kind }
     ensures { result ≡ frames_out stage.kind stage.memory frames }
 {
     let state = stage.memory.resampler;
     match stage.kind {
-        StageKind::Resample(r) => r.output_frames(state.primed, state.phase, frames),
+        StageKind::Resample(r) => r.output_frames(state, frames),
         _ => frames,
     }
 }
@@ -148,7 +148,7 @@ pub fn frames_out(stage: Stage, frames: usize) -> usize
 // The frames that a stage wants room for.
 #[tactic(auto, unfolding(crate::specs::Rooms::frames_wanted))]
 pub fn frames_wanted(kind: StageKind, frames: usize) -> usize
-    requires { (frames ≤ 2400000000000) × Bounded kind }
+    requires { FewFrames frames × Bounded kind }
     ensures { result ≡ frames_wanted kind frames }
 {
     match kind {
@@ -158,7 +158,7 @@ pub fn frames_wanted(kind: StageKind, frames: usize) -> usize
 }
 
 // The state as it is; that its newest frame is of two samples is what its type says.
-// Kept: what the type says of a sample is known where the sample is read, so both are read and put back.
+// What the type says of a sample is known where the sample is read, so both are read and put back.
 pub fn held_samples(state: ResamplerState) -> ResamplerState
     ensures { (result ≡ state) × Samples state.last × (length state.last ≡ 2) }
 {

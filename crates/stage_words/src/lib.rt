@@ -24,6 +24,8 @@ fn float_at(w: &[u32; 18], i: usize) -> f32
 }
 
 // The kind and its settings.
+// Kept: numbers for kinds, here and in `setting_words`: they are words of C's, and this is where they become a kind, with their fields. A
+// kind that is not there is read as mono to stereo, whose number is 2.
 #[tactic(auto, unfolding(crate::specs::Layout::kind_of))]
 pub fn kind_of(w: &[u32; 18]) -> StageKind
     ensures { result ≡ kind_of w.now (word w.now 0) }
@@ -85,6 +87,8 @@ pub fn memory_of(w: &[u32; 18]) -> SoundMemory
     }
 }
 
+// Taken in by each caller: what it does not ask of the stage is not read.
+#[inline(always)]
 pub fn stage_of(w: &[u32; 18]) -> Stage
     ensures { result ≡ stage_of w.now }
 {

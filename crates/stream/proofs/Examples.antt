@@ -21,13 +21,12 @@ use Rattle.pipeline.specs.declared.Pipeline.{Pipeline}
 use Rattle.pipeline.specs.Opening.{open_records, open_stages, chain_of, open_call}
 use Rattle.pipeline.specs.Reset.{format_leaving}
 use Rattle.answers.specs.declared.Answer.TheVariants.{NothingYet}
-use Rattle.answers.specs.declared.FinishAnswer.TheVariants as finished
 use Rattle.block.specs.BlockCall.{suited, legal, rooms_verdict, block_verdict, passed, accepted, BlockResult, block_call}
 use Rattle.ending.specs.ResamplerEnd.{on_last, whole_last, held_last, resampler_end, end_count, end_frame_count}
 use Rattle.ending.specs.StageEnd.{stage_end, frames_at_end}
 use Rattle.finish.specs.FinishCall as finishing
 use Rattle.finish.specs.FinishCall.{chain_end, room_at_end, end_verdict, finish_verdict, ended_halves, finish_call}
-use Rattle.questions.specs.Walk.{block_frames, size_verdict, larger, due_of, first_short, room_of, further, stepped, begun, walked}
+use Rattle.questions.specs.Walk.{block_frames, size_verdict, larger, due_of, first_short, room_of, further, begun, along}
 use Rattle.room.specs.Room.{found, block_room, finish_room}
 use Rattle.stream.specs.Calls.{Call, block, reset, finish, call_output, finish_output}
 use Rattle.stream.specs.Opened.{kinds_in}
@@ -65,7 +64,7 @@ lent_half = 7 ∷ 7 ∷ 7 ∷ 7 ∷ 7 ∷ 7 ∷ 7 ∷ 7 ∷ 7 ∷ 7 ∷ []
 abbrev played : Pipeline → List ℕ → BlockResult
 played c bytes = block_call c mono8000 0 bytes lent_half lent_half
 
-cut_f : ((played doubling (0 ∷ 0 ∷ [])).answer ≡ NothingYet 0)
+cut_f : ((played doubling (0 ∷ 0 ∷ [])).answer ≡ Ok (NothingYet 0))
     × (call_output (played (played doubling (0 ∷ 0 ∷ [])).chain (100 ∷ 0 ∷ 50 ∷ 0 ∷ [])) ≡ 0 ∷ 0 ∷ 50 ∷ 0 ∷ 100 ∷ 0 ∷ 75 ∷ 0 ∷ [])
 unfolding block_call block_verdict legal suited stage_suits rates_suit rates_allowed rate_allowed channels_allowed format_allowed rooms_verdict room_wanted frames_wanted frames_out resampled_count carried_count room_frames accepted passed written bytes_of frames_of sample_of low_of high_of format_leaving stage_out stage_next stage_clipped resampled state_after carried_outputs outputs_from carried_state among first_at output_at blend interpolated reduced gcd largest_divisor chain_of
 cut_f = (
@@ -77,7 +76,7 @@ cut_f = (
 abbrev louder : Pipeline
 louder = chain_of mono8000 (stage_as_opened (kind.Gain (record { q15 = pos 65536 })) ∷ stage_as_opened (kind.Resample (reduced 8000 16000)) ∷ [])
 
-clipped_first : (played louder (0x20 ∷ 0x4E ∷ [])).answer ≡ NothingYet 1
+clipped_first : (played louder (0x20 ∷ 0x4E ∷ [])).answer ≡ Ok (NothingYet 1)
 unfolding block_call block_verdict legal suited stage_suits rates_suit rates_allowed rate_allowed channels_allowed format_allowed rooms_verdict room_wanted frames_wanted frames_out resampled_count carried_count room_frames accepted passed written bytes_of frames_of sample_of low_of high_of format_leaving stage_out stage_next stage_clipped resampled state_after carried_outputs outputs_from carried_state among first_at output_at blend interpolated reduced gcd largest_divisor chain_of clipped_in clipped_by outside scaled held
 clipped_first = refl
 
@@ -85,7 +84,7 @@ clipped_first = refl
 abbrev waiting : Pipeline → Pipeline
 waiting c = (played (played c (0 ∷ 0 ∷ [])).chain (100 ∷ 0 ∷ 50 ∷ 0 ∷ [])).chain
 
-end_f : (finish_output (finish_call (waiting doubling) lent_half lent_half) ≡ 50 ∷ 0 ∷ []) × ((finish_call (waiting doubling) (7 ∷ []) lent_half).answer ≡ finished.Refused (BufferTooSmall 4))
+end_f : (finish_output (finish_call (waiting doubling) lent_half lent_half) ≡ 50 ∷ 0 ∷ []) × ((finish_call (waiting doubling) (7 ∷ []) lent_half).answer ≡ Err (BufferTooSmall 4))
 unfolding block_call block_verdict legal suited stage_suits rates_suit rates_allowed rate_allowed channels_allowed format_allowed rooms_verdict room_wanted frames_wanted frames_out resampled_count carried_count room_frames accepted passed written bytes_of frames_of sample_of low_of high_of format_leaving stage_out stage_next stage_clipped resampled state_after carried_outputs outputs_from carried_state among first_at output_at blend interpolated reduced gcd largest_divisor chain_of held_last resampler_end end_count end_frame_count stage_end frames_at_end chain_end room_at_end end_verdict finish_verdict ended_halves finishing.finished finish_call
 end_f = (
   refl,
@@ -96,7 +95,7 @@ end_f = (
 -- of none and of 8,193 nothing is told; then the finish brings one frame and wants 2
 room_f : (block_room doubling 3 ≡ Ok (record { frames = 4; half = 14 })) × (block_room doubling 1 ≡ Ok (record { frames = 0; half = 6 })) × (block_room doubling 0 ≡ Err InvalidGeometry) × (block_room doubling 8193 ≡ Err TooLong)
     × (finish_room doubling ≡ Ok (record { frames = 0; half = 0 })) × (finish_room (waiting doubling) ≡ Ok (record { frames = 1; half = 2 }))
-unfolding block_room finish_room found walked stepped further begun block_frames size_verdict due_of room_of first_short larger end_count end_frame_count frames_at_end block_call block_verdict legal suited stage_suits rates_suit rates_allowed rate_allowed channels_allowed format_allowed rooms_verdict room_wanted frames_wanted frames_out resampled_count carried_count room_frames accepted passed written bytes_of frames_of sample_of low_of high_of format_leaving stage_out stage_next stage_clipped resampled state_after carried_outputs outputs_from carried_state among first_at output_at blend interpolated reduced gcd largest_divisor chain_of
+unfolding block_room finish_room found along further begun block_frames size_verdict due_of room_of first_short larger end_count end_frame_count frames_at_end block_call block_verdict legal suited stage_suits rates_suit rates_allowed rate_allowed channels_allowed format_allowed rooms_verdict room_wanted frames_wanted frames_out resampled_count carried_count room_frames accepted passed written bytes_of frames_of sample_of low_of high_of format_leaving stage_out stage_next stage_clipped resampled state_after carried_outputs outputs_from carried_state among first_at output_at blend interpolated reduced gcd largest_divisor chain_of
 room_f = (
   refl,
   refl,

@@ -30,7 +30,7 @@ use Rattle.block.specs.laws.Bounds.{legal_parts}
 use Rattle.block.specs.Theorems.{scratch_suffices}
 use Rattle.block.specs.Chain.{chain_next}
 use Rattle.block.specs.laws.Chain.{chain_next-nil}
-use Rattle.answers.specs.declared.FinishAnswer.TheVariants as finish
+use Rattle.answers.specs.declared.Answer.TheVariants as answer
 use Rattle.finish.specs.FinishCall.{finish_call}
 use Rattle.finish.specs.Theorems.{nothing_due}
 use Rattle.room.specs.Beforehand.{BlockBeforehand, FinishBeforehand}
@@ -103,7 +103,7 @@ module _ (f : PcmFormat) (recipe : List ℕ) (o : Pipeline) (h : open_call f rec
       still_legal e room three
 
   -- with no frames since opening, the last reset or the last accepted finish, a finish is 'nothing yet' and alters nothing, whatever the halves
-  pub nothing_to_finish : fed (stream_of o calls) ≡ [] → (a b : List ℕ) → finish_call c a b ≡ record { chain = c; answer = finish.NothingYet 0; a = a; b = b }
+  pub nothing_to_finish : fed (stream_of o calls) ≡ [] → (a b : List ℕ) → finish_call c a b ≡ record { chain = c; answer = Ok (answer.NothingYet 0); a = a; b = b }
   nothing_to_finish e a b =
       let s : stages_of c ≡ stages_of o = next_call.moved.stages ∙ ap (chain_next (stages_of o)) e ∙ chain_next-nil (stages_of o) in
       nothing_due c still_legal (s ∙ (opened_chain f recipe o h).silent ∙ ap (map stage_clear) (sym s)) a b

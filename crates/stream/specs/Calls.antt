@@ -1,6 +1,7 @@
 -- Calls on a chain (document 01, 'The whole stream'; document 02, Q-1 and Q-2): each is the block call, reset or finish as their promises define them.
 -- Definitions only.
-use Rattle.std.specs.Prelude.{List, [], ◌++◌, ℕ, ◌+◌}
+use Rattle.std.specs.Prelude.{List, [], ◌++◌, ℕ, ◌+◌, Ok, Err, Result}
+use Rattle.pcm.specs.declared.Error.{Error}
 use Rattle.pcm.specs.declared.PcmFormat.{PcmFormat}
 use Rattle.pcm.specs.Samples.{Bytes}
 use Rattle.pipeline.specs.declared.Pipeline.{Pipeline}
@@ -8,9 +9,7 @@ use Rattle.pipeline.specs.Reset.{reset_call}
 use Rattle.answers.specs.declared.Answer.{Answer}
 use Rattle.answers.specs.declared.Answer.TheVariants as answer
 use Rattle.block.specs.BlockCall.{BlockResult, block_call}
-use Rattle.answers.specs.Answers.{output_of}
-use Rattle.answers.specs.declared.FinishAnswer.{FinishAnswer}
-use Rattle.answers.specs.declared.FinishAnswer.TheVariants as finished
+use Rattle.answers.specs.Answers.{sound_of}
 use Rattle.finish.specs.FinishCall.{FinishResult, finish_call}
 
 -- every call brings its own block and halves, of any bytes and lengths: format, timestamp, block, half a, half b; finish its two halves alone
@@ -26,32 +25,21 @@ Lent reset = Unit {0}
 Lent (finish a b) = Unit {0}
 
 -- ---- a call's output, as the small call hands it back on return; 'nothing yet' or a number has empty output
-abbrev pub output_by : Answer → BlockResult → List ℕ
-output_by (answer.Output format timestamp side len clipped) r = output_of side len r.a r.b
-output_by (answer.NothingYet clipped) r = []
-output_by (answer.Refused e) r = []
+abbrev pub output_by : {T : Type 0} → Result (Answer T) Error → List ℕ → List ℕ → List ℕ
+output_by (Ok x) a b = sound_of x a b
+output_by (Err e) a b = []
 
 abbrev pub call_output : BlockResult → List ℕ
-call_output r = output_by r.answer r
-
-abbrev pub finish_output_by : FinishAnswer → FinishResult → List ℕ
-finish_output_by (finished.Output format side len clipped) r = output_of side len r.a r.b
-finish_output_by (finished.NothingYet clipped) r = []
-finish_output_by (finished.Refused e) r = []
+call_output r = output_by r.answer r.a r.b
 
 abbrev pub finish_output : FinishResult → List ℕ
-finish_output r = finish_output_by r.answer r
+finish_output r = output_by r.answer r.a r.b
 
 -- ---- how many samples it held back: an accepted call, 'nothing yet' too, answers the sum over its stages; a refusal has none
-abbrev pub clipped_by : Answer → ℕ
-clipped_by (answer.Output format timestamp side len clipped) = clipped
-clipped_by (answer.NothingYet clipped) = clipped
-clipped_by (answer.Refused e) = 0
-
-abbrev pub finish_clipped_by : FinishAnswer → ℕ
-finish_clipped_by (finished.Output format side len clipped) = clipped
-finish_clipped_by (finished.NothingYet clipped) = clipped
-finish_clipped_by (finished.Refused e) = 0
+abbrev pub clipped_by : {T : Type 0} → Result (Answer T) Error → ℕ
+clipped_by (Ok (answer.Output format timestamp side len clipped)) = clipped
+clipped_by (Ok (answer.NothingYet clipped)) = clipped
+clipped_by (Err e) = 0
 
 -- ---- one call
 -- the chain, and since its stream began the output joined and the samples held back
@@ -68,7 +56,7 @@ abbrev pub joined_by : Run → BlockResult → Run
 joined_by run r = record { chain = r.chain; joined = run.joined ++ call_output r; clipped = run.clipped + clipped_by r.answer }
 
 abbrev pub finished_by : Run → FinishResult → Run
-finished_by run r = record { chain = r.chain; joined = run.joined ++ finish_output r; clipped = run.clipped + finish_clipped_by r.answer }
+finished_by run r = record { chain = r.chain; joined = run.joined ++ finish_output r; clipped = run.clipped + clipped_by r.answer }
 
 abbrev pub after_call : Run → Call → Run
 after_call r (block format timestamp bytes a b) = joined_by r (block_call r.chain format timestamp bytes a b)

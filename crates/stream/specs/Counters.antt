@@ -1,6 +1,7 @@
 -- What the counters count in any calls (document 01, pipeline.rs; document 02, Q-1). Definitions only.
 use Rattle.pcm.specs.Refusals.{Verdict}
-use Rattle.std.specs.Prelude.{cond, List, [], ◌∷◌, ℕ, ◌+◌, leb, Ok, Err}
+use Rattle.std.specs.Prelude.{cond, List, [], ◌∷◌, ℕ, ◌+◌, leb, Ok, Err, Result}
+use Rattle.pcm.specs.declared.Error.{Error}
 use Rattle.pcm.specs.Frames.{Frame}
 use Rattle.pipeline.specs.declared.Pipeline.{Pipeline}
 use Rattle.answers.specs.declared.Answer.{Answer}
@@ -35,10 +36,10 @@ abbrev pub accepted_blocks : Pipeline → List Call → ℕ
 accepted_blocks o calls = accepted_from o (running []) calls
 
 -- one for 'nothing yet'
-abbrev pub one_if_nothing : Answer → ℕ
-one_if_nothing (answer.Output format timestamp side len clipped) = 0
-one_if_nothing (answer.NothingYet clipped) = 1
-one_if_nothing (answer.Refused e) = 0
+abbrev pub one_if_nothing : Result (Answer ℕ) Error → ℕ
+one_if_nothing (Ok (answer.Output format timestamp side len clipped)) = 0
+one_if_nothing (Ok (answer.NothingYet clipped)) = 1
+one_if_nothing (Err e) = 0
 
 -- the block calls that answer 'nothing yet'; finish moves no counter
 abbrev pub nothing_by : Run → Call → ℕ

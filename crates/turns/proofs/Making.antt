@@ -1,5 +1,5 @@
 -- A stage's turn by its kind: what the kind's own function asks, and that what it does is what the stage makes. Assumes nothing.
-use Rattle.std.specs.Prelude.{◌≡◌, List, ℕ, ◌*◌, ◌/◌, ◌%◌, ◌≤◌, length, nat_abs}
+use Rattle.std.specs.Prelude.{◌≡◌, List, ℕ, ◌*◌, ◌/◌, ◌%◌, ◌≤◌, length}
 use Rattle.std.proofs.Common.{sym, subst, ◌∙◌}
 use Rattle.pcm.specs.declared.PcmFormat.{PcmFormat}
 use Rattle.pcm.specs.Samples.{Samples, decode}
@@ -7,7 +7,7 @@ use Rattle.pcm.specs.Frames.{Frame, frames_of, written}
 use Rattle.filters.specs.declared.Filtered.{Filtered}
 use Rattle.filters.specs.Filters.{FilterBlock, FilteredBlock}
 use Rattle.gain.specs.declared.Gain.{Gain}
-use Rattle.gain.specs.Gain.{scaled_bytes}
+use Rattle.gain.specs.Gain.{GainBlock, scaled_bytes}
 use Rattle.gain.specs.Clipping.{clipped_in}
 use Rattle.channels.specs.Channels.{stereo_bytes, mono_bytes}
 use Rattle.dc_block.specs.declared.DcBlock.{DcBlock}
@@ -40,7 +40,7 @@ module _ (f : PcmFormat) (s : Stage) {source target : List ℕ} (w : Takes f s s
   of_kind k m len after e v = subst (λ (k : StageKind). Serves f s (record { kind = k; memory = m }) xs len target after) (sym e) v
 
   -- ---- gain
-  pub gain_takes : (g : Gain) → s.kind ≡ kind.Gain g → (length source % 2 ≡ 0) × (length source ≤ length target) × (nat_abs g.q15 ≤ 33554432)
+  pub gain_takes : (g : Gain) → s.kind ≡ kind.Gain g → GainBlock g.q15 source target
   gain_takes g e = gain_asks f s source target w.0 (held_as _ e tt) g e
 
   pub gain_makes : (g : Gain) (clipped : ℕ) (after : List ℕ) → s.kind ≡ kind.Gain g → after ≡ written (scaled_bytes g.q15 source) target → clipped ≡ clipped_in g.q15 (decode source)

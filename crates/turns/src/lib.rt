@@ -102,7 +102,8 @@ fn even_source<'a>(i: usize, n: usize, block: &'a [u8], b: &'a [u8]) -> &'a [u8]
 }
 
 // A step from what stage i + 1 reads to its half.
-fn between_halves<R, F: FnOnce(&[u8], &mut [u8]) -> R>(
+// Kept: five parameters in place of a struct of the two halves, which each turn would take apart again: it reads one and writes the other.
+pub fn between_halves<R, F: FnOnce(&[u8], &mut [u8]) -> R>(
     i: usize,
     n: usize,
     block: &[u8],

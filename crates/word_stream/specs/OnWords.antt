@@ -12,8 +12,8 @@ use Rattle.answers.specs.declared.FinishTold.{FinishTold}
 use Rattle.stream.specs.Calls.{Call, block, reset, finish, Run}
 use Rattle.stream.specs.Stream.{Stream, fed, after_feeding, gathered_in}
 use Rattle.chain_words.specs.Layout.{chain_of_words}
-use Rattle.word_finish.specs.Words.{Outcome, reset_outcome, finish_outcome}
-use Rattle.muzgleur.specs.Results.{block_outcome}
+use Rattle.chains.specs.Words.{Outcome, reset_outcome}
+use Rattle.muzgleur.specs.Results.{block_outcome, finish_outcome}
 
 -- the output that a program takes: where the outcome is 1, len bytes at the front of the half named
 abbrev pub taken : ℕ → ℕ → ℕ → List ℕ → List ℕ → List ℕ

@@ -1,4 +1,6 @@
 // Numbers of two, four and eight bytes, low byte first.
+// Kept: a place in a slice in place of an array of the bytes: a record's fields are read one after another, and each caller would have to
+// cut its bytes out first.
 #![tactic(auto)]
 
 ghost use Rattle.std.specs.Prelude.{◌≡◌, ◌+◌, ◌<◌, ◌≤◌, length, take, drop};

@@ -1,20 +1,32 @@
 -- `block::walked` meets its contract. Assumes nothing.
-use Rattle.std.proofs.Common.{arith}
-use Rattle.block.specs.laws.Asking.{asks_fits, in_use, asks_along, asks_end}
+use Rattle.std.proofs.Common.{◌≡◌, sym, ap, ◌∙◌, rules, ℕ, take, Err}
+use Rattle.questions.specs.Walk.{stepped, walked}
+use Rattle.chains.specs.declared.Head.{Head}
+use Rattle.block.specs.laws.Asking.{asks_next, asks_stop, asks_end, ends_refused}
 use Rattle.block.proofs.walked.Goals as goal
 
-pub loop-s-init : goal.loop-s-init
-loop-s-init c = c.requires
+count_of : {a b : Head} → a ≡ b → a.count ≡ b.count
+count_of e = ap (λ (h : Head). h.count) e
 
-pub asked-walk-requires : goal.asked-walk-requires
-asked-walk-requires c =
-    let v = c.loop-s.invariant in
-    asks_fits _ _ _ _ _ _ _ _ v (omega (arith, c.loop-s-test.true, in_use _ _ _ _ _ _ _ _ v))
+pub loop-i-preserved : goal.loop-i-preserved
+loop-i-preserved g c =
+    asks_next _ _ _ _ _ _ _ _ c.loop-i.invariant c.loop-i-test.true _
+    (ap (stepped c.args.asking.question c.args.asking.shorter c.loop-i.walk) (sym c.stage.ensures) ∙ sym c.step.ensures ∙ c.in_ok-walk.was)
 
-pub loop-s-preserved : goal.loop-s-preserved
-loop-s-preserved c = asks_along _ _ _ _ _ _ _ _ c.loop-s.invariant c.loop-s-test.true _ c.asked-walk.ensures
+pub returns-in_err-walk : goal.returns-in_err-walk
+returns-in_err-walk g c =
+    let st = (g.C.Chain.chain c.args.chain.now).stages in
+    let e : c.from_residual.result ≡ Err c.in_err-walk.field-0.0 = search rules in
+    ends_refused _ _ _ e
+    (ap (λ (n : ℕ). walked c.args.asking.question c.args.asking.shorter c.args.start (take n st)) (sym (count_of c.requires.head))
+    ∙ asks_stop _ _ _ _ _ _ _ _ c.loop-i.invariant c.loop-i-test.true _
+    (ap (stepped c.args.asking.question c.args.asking.shorter c.loop-i.walk) (sym c.stage.ensures) ∙ sym c.step.ensures ∙ c.in_err-walk.was))
 
 pub returns : goal.returns
-returns c =
-    let v = c.loop-s.invariant in
-    record { is = asks_end _ _ _ _ _ _ _ _ v (omega (arith, c.loop-s-test.false, in_use _ _ _ _ _ _ _ _ v)); largest = v.within.largest; short = v.within.short }
+returns g c =
+    let v = c.loop-i.invariant in
+    let st = (g.C.Chain.chain c.args.chain.now).stages in
+    record {
+      is = sym (asks_end _ _ _ _ _ _ _ _ v c.loop-i-test.false) ∙ ap (λ (n : ℕ). walked c.args.asking.question c.args.asking.shorter c.args.start (take n st)) (count_of c.requires.head);
+      fits = (v.within.largest, v.within.short);
+    }

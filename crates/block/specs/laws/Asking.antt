@@ -1,8 +1,8 @@
 -- The walk that asks, from one stage to the next and to its end. Assumes nothing.
-use Rattle.pcm.specs.Refusals.{Verdict}
-use Rattle.std.specs.Prelude.{◌≡◌, true, List, ℕ, ◌+◌, ◌≤◌, ◌<◌, leb, ltb, length, take, drop, get_or}
-use Rattle.std.proofs.Common.{sym, ap, ◌∙◌, subst, arith, leb-true, ltb-true, length-take-le, get_or-take}
+use Rattle.std.specs.Prelude.{◌≡◌, true, List, ℕ, ◌+◌, ◌≤◌, ◌<◌, leb, ltb, length, take, drop, get_or, Result, Ok, Err, IfOk}
+use Rattle.std.proofs.Common.{sym, ap, ◌∙◌, subst, arith, leb-true, ltb-true}
 use Rattle.pcm.specs.declared.PcmFormat.{PcmFormat}
+use Rattle.pcm.specs.declared.Error.{Error}
 use Rattle.pcm.specs.Formats.{format_allowed, rate_allowed, channels_allowed}
 use Rattle.stage.specs.declared.Stage.{Stage}
 use Rattle.pcm.specs.laws.Tests.{both}
@@ -13,9 +13,9 @@ use Rattle.questions.specs.declared.Walk.{Walk}
 use Rattle.pipeline.specs.WritingBack.{stages_of}
 use Rattle.block.specs.BlockCall.{block_verdict}
 use Rattle.block.specs.laws.Steps.{stage_at_lem, stages_end, drop_zero}
-use Rattle.questions.specs.Walk.{head_legal, stepped, begun, walked, verdict_from}
-use Rattle.block.specs.laws.Walking.{Within, few, step_within, begun_within, walked_none, verdict_is}
-use Rattle.questions.specs.laws.Walking.{walked_step}
+use Rattle.questions.specs.Walk.{head_legal, stepped, begun, walk_on, walked, ShortFits, Walked, verdict_from}
+use Rattle.block.specs.laws.Walking.{Within, few, step_within, begun_within, verdict_is}
+use Rattle.questions.specs.laws.Walking.{walked_step, walked_none}
 use Rattle.stage.specs.laws.Places.{no_stage}
 use Rattle.block.specs.laws.Counts.{no_stages, some_stages, not_none}
 
@@ -67,30 +67,38 @@ module _ (q : Question) (shorter first : ℕ) (stages : List Stage) (count : ℕ
   pub asks_fits : i < count → (w.frames ≤ 2400000000000) × ((0 < w.format.channels) × (w.format.channels ≤ 2))
   asks_fits h = (few first p.rate.0 p.rate.1 w i (omega (arith, p.few)) p.within, p.within.channels)
 
-  pub asks_next : i < count → (v : Walk) → v ≡ stepped q shorter w (get_or stages i no_stage) → Asks q shorter first stages count start v (i + 1)
+  asks_here : i < count → walked q shorter start (take count stages) ≡ walk_on (stepped q shorter w (get_or stages i no_stage)) (λ x. walked q shorter x (drop (i + 1) (take count stages)))
+  asks_here h =
+      p.so_far ∙ ap (walked q shorter w) (stage_at_lem stages count i no_stage h (omega (arith, p.few, p.long)))
+      ∙ walked_step q shorter w (get_or stages i no_stage) (drop (i + 1) (take count stages))
+
+  pub asks_next : i < count → (v : Walk) → stepped q shorter w (get_or stages i no_stage) ≡ Ok v → Asks q shorter first stages count start v (i + 1)
   asks_next h v e = record {
     at_most = omega arith;
     few = p.few;
     long = p.long;
     rate = p.rate;
-    within = subst (λ (x : Walk). Within first x (i + 1)) (sym e) (step_within first p.rate.0 p.rate.1 w i (omega (arith, p.few)) p.within q shorter (get_or stages i no_stage));
-    so_far = p.so_far ∙ ap (walked q shorter w) (stage_at_lem stages count i no_stage h (omega (arith, p.few, p.long))) ∙ walked_step q shorter w (get_or stages i no_stage) (drop (i + 1) (take count stages)) ∙ ap (λ (x : Walk). walked q shorter x (drop (i + 1) (take count stages))) (sym e);
+    within = step_within first p.rate.0 p.rate.1 w i (omega (arith, p.few)) p.within q shorter (get_or stages i no_stage) v e;
+    so_far = asks_here h ∙ ap (λ (r : Result Walk Error). walk_on r (λ x. walked q shorter x (drop (i + 1) (take count stages)))) e;
   }
 
-  pub asks_end : count ≤ i → w ≡ walked q shorter start (take count stages)
-  asks_end h = sym (p.so_far ∙ ap (walked q shorter w) (stages_end stages count i h) ∙ walked_none q shorter w)
+  pub asks_stop : i < count → (x : Error) → stepped q shorter w (get_or stages i no_stage) ≡ Err x → walked q shorter start (take count stages) ≡ Err x
+  asks_stop h x e = asks_here h ∙ ap (λ (r : Result Walk Error). walk_on r (λ v. walked q shorter v (drop (i + 1) (take count stages)))) e
 
-  -- the same, for a walk over the stages in use
-  pub in_use : length (take count stages) ≡ count
-  in_use = length-take-le count stages (omega (arith, p.few, p.long))
+  pub asks_end : count ≤ i → walked q shorter start (take count stages) ≡ Ok w
+  asks_end h = p.so_far ∙ ap (walked q shorter w) (stages_end stages count i h) ∙ walked_none q shorter w
 
-  pub asks_along : i < length (take count stages) → (v : Walk) → v ≡ stepped q shorter w (get_or (take count stages) i no_stage) → Asks q shorter first stages count start v (i + 1)
-  asks_along h v e = let m : i < count = omega (arith, h, in_use) in asks_next m v (e ∙ ap (stepped q shorter w) (get_or-take count stages i no_stage m))
+-- a walk that a stage ended
+pub ends_refused : (r found : Result Walk Error) (x : Error) → r ≡ Err x → found ≡ Err x → Walked r found
+ends_refused r found x e f = record { is = e ∙ sym f; fits = subst (λ (y : Result Walk Error). IfOk y (λ w. (w.largest ≤ 3688000000000000000) × ShortFits w.short)) (sym e) tt }
+
+-- and one that came to its end
+pub ends_found : (r found : Result Walk Error) (w : Walk) → Walked r found → r ≡ Ok w → (w.largest ≤ 3688000000000000000) × ShortFits w.short
+ends_found r found w p e = subst (λ (y : Result Walk Error). IfOk y (λ x. (x.largest ≤ 3688000000000000000) × ShortFits x.short)) e p.fits
 
 -- the verdict of the whole walk is the definition's
-pub walk_verdict : (c : Pipeline) (format : PcmFormat) (size short : ℕ) (start w : Walk) (v : Verdict) → head_legal c.format c.count ≡ true → length c.stages ≡ 8
-    → start ≡ begun c.format c.count size short → w ≡ walked Block short start (stages_of c) → v ≡ verdict_from c.format format size w
-    → block_verdict c format size short ≡ v
-walk_verdict c format size short start w v h len e m k =
-    sym (k ∙ ap (verdict_from c.format format size) (m ∙ ap (λ (x : Walk). walked Block short x (stages_of c)) e)
-    ∙ verdict_is c format size short h (no_stages c) (λ z. not_none (stages_of c) (some_stages c (head_parts c.format c.count h).few z len)))
+pub walk_verdict : (c : Pipeline) (format : PcmFormat) (size short : ℕ) (start : Walk) (r : Result Walk Error) → head_legal c.format c.count ≡ true → length c.stages ≡ 8
+    → start ≡ begun c.format c.count size short → r ≡ walked Block short start (stages_of c) → verdict_from c.format format size r ≡ block_verdict c format size short
+walk_verdict c format size short start r h len e m =
+    ap (verdict_from c.format format size) (m ∙ ap (λ (x : Walk). walked Block short x (stages_of c)) e)
+    ∙ verdict_is c format size short h (no_stages c) (λ z. not_none (stages_of c) (some_stages c (head_parts c.format c.count h).few z len))

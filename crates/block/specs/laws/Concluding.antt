@@ -1,6 +1,6 @@
 -- From the verdict and the end of the walk that plays to the block call's result. Assumes nothing.
 use Rattle.pcm.specs.Refusals.{Verdict}
-use Rattle.std.specs.Prelude.{◌≡◌, false, List, ◌++◌, ℕ, zero, suc, length, drop, Ok, Err}
+use Rattle.std.specs.Prelude.{◌≡◌, false, List, ◌++◌, ℕ, zero, suc, length, drop, Ok, Err, Result}
 use Rattle.std.proofs.Math.Path.{refl, sym, ap₂}
 use Rattle.std.proofs.Common.{ap, ◌∙◌, suc-ne-zero}
 use Rattle.pcm.specs.declared.PcmFormat.{PcmFormat}
@@ -12,7 +12,6 @@ use Rattle.stage.specs.declared.Stage.{Stage}
 use Rattle.pipeline.specs.declared.Pipeline.{Pipeline}
 use Rattle.answers.specs.declared.Half.{Half}
 use Rattle.answers.specs.declared.Answer.{Answer}
-use Rattle.answers.specs.declared.Answer.TheVariants as answers
 use Rattle.block.specs.Chain.{chain_out, chain_next}
 use Rattle.pipeline.specs.Reset.{format_leaving}
 use Rattle.turns.specs.Turns.{Halves, halves}
@@ -22,7 +21,8 @@ use Rattle.pipeline.specs.WritingBack.{stages_of}
 use Rattle.questions.specs.Walk.{head_legal}
 use Rattle.block.specs.Turns.{Accepts}
 use Rattle.block.specs.laws.Turns.{Ended}
-use Rattle.block.specs.laws.Stages.{with_stages, halves_end}
+use Rattle.chains.specs.Chains.{with_stages}
+use Rattle.block.specs.laws.Stages.{halves_end}
 use Rattle.block.specs.laws.Walking.{head_illegal}
 
 -- ---- refusals
@@ -31,11 +31,11 @@ unfolding block_verdict
 head_refused c format size short h = rw (head_illegal c h)
 
 module _ (c : Pipeline) (format : PcmFormat) (t : ℕ) (block a b : List ℕ) where
-  pub refused_is : (e : Error) (chain : Pipeline) (answer : Answer) → chain ≡ c → answer ≡ answers.Refused e → block_verdict c format (length block) (shorter a b) ≡ Err e
+  pub refused_is : (e : Error) (chain : Pipeline) (answer : Result (Answer ℕ) Error) → chain ≡ c → answer ≡ Err e → block_verdict c format (length block) (shorter a b) ≡ Err e
       → record { chain = chain; answer = answer; a = a; b = b } ≡ block_call c format t block a b
   unfolding block_call
   refused_is e chain answer p q h =
-      ap₂ (λ (x : Pipeline) (y : Answer). record { chain = x; answer = y; a = a; b = b }) p q
+      ap₂ (λ (x : Pipeline) (y : Result (Answer ℕ) Error). record { chain = x; answer = y; a = a; b = b }) p q
       ∙ sym (ap (λ (v : Verdict). concluded v c t block (record { a = a; b = b })) h)
 
   pub accepted_call : block_verdict c format (length block) (shorter a b) ≡ Ok tt → accepted c t block (halves a b) ≡ block_call c format t block a b
@@ -58,7 +58,7 @@ module _ (c : Pipeline) (format : PcmFormat) (t : ℕ) (block a b : List ℕ) wh
 
   accepted_is : record {
     chain = counted_chain c next size;
-    answer = output_answer leaving t (last_half c.count) size (block_clipped c block);
+    answer = Ok (output_answer leaving t (last_half c.count) size (block_clipped c block));
     a = (halves_after (stages_of c) (frames_of c.format.channels block) block (halves a b)).a;
     b = (halves_after (stages_of c) (frames_of c.format.channels block) block (halves a b)).b;
   } ≡ accepted c t block (halves a b)
@@ -68,23 +68,18 @@ module _ (c : Pipeline) (format : PcmFormat) (t : ℕ) (block a b : List ℕ) wh
   module _ (w : Accepts c block a b) (eight : length c.stages ≡ 8) (bytes : Bytes block) (a₀ : List ℕ) (u : a₀ ≡ unstaged c.count block a)
       (s : List Stage) (f : PcmFormat) (len : ℕ) (h : Halves) (e : Ended c.stages c.count c.format block (halves a₀ b) s f len h)
       (clipped : ℕ) (held : clipped ≡ block_clipped c block) where
-    played : record { chain = counted_chain c s len; answer = output_answer f t (last_half c.count) len clipped; a = h.a; b = h.b } ≡ accepted c t block (halves a b)
+    played : record { chain = counted_chain c s len; answer = Ok (output_answer f t (last_half c.count) len clipped); a = h.a; b = h.b } ≡ accepted c t block (halves a b)
     played =
-        ap (λ (r : Answer). record { chain = counted_chain c s len; answer = r; a = h.a; b = h.b }) (same_answer f leaving (last_half c.count) len clipped e.form ∙ ap (output_answer leaving t (last_half c.count) len) held)
-        ∙ ap₂ (λ (l : List Stage) (n : ℕ). record { chain = counted_chain c l n; answer = output_answer leaving t (last_half c.count) n (block_clipped c block); a = h.a; b = h.b }) e.keeps e.size
-        ∙ ap (λ (g : Halves). record { chain = counted_chain c next size; answer = output_answer leaving t (last_half c.count) size (block_clipped c block); a = g.a; b = g.b }) (e.halves_are ∙ halves_end c block a b w eight bytes a₀ u)
+        ap (λ (r : Answer ℕ). record { chain = counted_chain c s len; answer = Ok r; a = h.a; b = h.b }) (same_answer f leaving (last_half c.count) len clipped e.form ∙ ap (output_answer leaving t (last_half c.count) len) held)
+        ∙ ap₂ (λ (l : List Stage) (n : ℕ). record { chain = counted_chain c l n; answer = Ok (output_answer leaving t (last_half c.count) n (block_clipped c block)); a = h.a; b = h.b }) e.keeps e.size
+        ∙ ap (λ (g : Halves). record { chain = counted_chain c next size; answer = Ok (output_answer leaving t (last_half c.count) size (block_clipped c block)); a = g.a; b = g.b }) (e.halves_are ∙ halves_end c block a b w eight bytes a₀ u)
         ∙ accepted_is
 
-    pub concludes_accepted : (chain : Pipeline) → chain ≡ with_stages c s → (blocks empties : ℕ) (answer : Answer) → blocks ≡ counted_up chain.blocks → empties ≡ counted_if len chain.empty_blocks
+    pub concludes_accepted : (chain : Pipeline) → chain ≡ with_stages c s → (blocks empties : ℕ) (answer : Answer ℕ) → blocks ≡ counted_up chain.blocks → empties ≡ counted_if len chain.empty_blocks
         → answer ≡ output_answer f t (last_half c.count) len clipped
-        → record { chain = record { stages = chain.stages; count = chain.count; format = chain.format; blocks = blocks; empty_blocks = empties }; answer = answer; a = h.a; b = h.b } ≡ accepted c t block (halves a b)
+        → record { chain = record { stages = chain.stages; count = chain.count; format = chain.format; blocks = blocks; empty_blocks = empties }; answer = Ok answer; a = h.a; b = h.b } ≡ accepted c t block (halves a b)
     unfolding with_stages
     concludes_accepted chain m blocks empties answer p q r =
-        ap₂ (λ (x y : ℕ). record { chain = record { stages = chain.stages; count = chain.count; format = chain.format; blocks = x; empty_blocks = y }; answer = answer; a = h.a; b = h.b }) p q
-        ∙ ap₂ (λ (d : Pipeline) (y : Answer). record { chain = record { stages = d.stages; count = d.count; format = d.format; blocks = counted_up d.blocks; empty_blocks = counted_if len d.empty_blocks }; answer = y; a = h.a; b = h.b }) m r
+        ap₂ (λ (x y : ℕ). record { chain = record { stages = chain.stages; count = chain.count; format = chain.format; blocks = x; empty_blocks = y }; answer = Ok answer; a = h.a; b = h.b }) p q
+        ∙ ap₂ (λ (d : Pipeline) (y : Answer ℕ). record { chain = record { stages = d.stages; count = d.count; format = d.format; blocks = counted_up d.blocks; empty_blocks = counted_if len d.empty_blocks }; answer = Ok y; a = h.a; b = h.b }) m r
         ∙ played
-
-    pub concludes : (chain : Pipeline) → chain ≡ with_stages c s → (blocks empties : ℕ) (answer : Answer) → blocks ≡ counted_up chain.blocks → empties ≡ counted_if len chain.empty_blocks
-        → answer ≡ output_answer f t (last_half c.count) len clipped → block_verdict c format (length block) (shorter a b) ≡ Ok tt
-        → record { chain = record { stages = chain.stages; count = chain.count; format = chain.format; blocks = blocks; empty_blocks = empties }; answer = answer; a = h.a; b = h.b } ≡ block_call c format t block a b
-    concludes chain m blocks empties answer p q r v = concludes_accepted chain m blocks empties answer p q r ∙ accepted_call v

@@ -1,7 +1,7 @@
 -- From before one stage to before the next, and to the end. Assumes nothing.
-use Rattle.std.specs.Prelude.{◌≡◌, Bool, true, false, cond, List, [], ◌∷◌, ◌++◌, ℕ, zero, suc, ◌+◌, ◌*◌, ◌/◌, ◌%◌, ◌≤◌, ◌<◌, eqb, leb, length, take, drop, get_or, set, Ok}
+use Rattle.std.specs.Prelude.{◌≡◌, Bool, true, false, cond, List, [], ◌∷◌, ◌++◌, ℕ, zero, suc, ◌+◌, ◌*◌, ◌/◌, ◌%◌, ◌≤◌, ◌<◌, eqb, length, take, drop, get_or, set, Ok}
 use Rattle.std.proofs.Math.Path.{refl}
-use Rattle.std.proofs.Common.{sym, ap, ap₂, ◌∙◌, subst, append_assoc, mul-pos, mul-div_cancel, div-add-mod', zero-mul, arith, eq-eqb, ne_eqb, leb-true, leb-false, take-append-drop, take-suc-set, drop-set-lt, drop-drop, get_or-drop, length-take-le}
+use Rattle.std.proofs.Common.{sym, ap, ap₂, ◌∙◌, subst, append_assoc, mul-pos, mul-div_cancel, div-add-mod', zero-mul, arith, eq-eqb, ne_eqb, take-append-drop, take-suc-set, drop-set-lt, drop-drop, get_or-drop, length-take-le}
 use Rattle.std.proofs.Math.Nat.{mul-mod_left}
 use Rattle.std.proofs.Math.Decide.{dec_lt}
 use Rattle.std.proofs.Math.Numerals.{add-one}
@@ -67,7 +67,7 @@ passed-nil i (s ∷ rest) h =
     ∙ passed-nil (i + 1) rest h
 
 -- the next source is what was written
-next_source : (i n : ℕ) (block out : List ℕ) (h : Halves) → n ≡ length out → source_at (i + 1) n block (put i out h) ≡ out
+pub next_source : (i n : ℕ) (block out : List ℕ) (h : Halves) → n ≡ length out → source_at (i + 1) n block (put i out h) ≡ out
 next_source i n block out h e = go (dec_lt (i % 2) 1)
   where
     z : i + 1 ≡ 0 → ⊥
@@ -104,18 +104,10 @@ target_long i h m p q = go (eqb (i % 2) 0)
     go false = q
 
 pub shorter_a : (a b : List ℕ) → shorter a b ≤ length a
-shorter_a a b = go (leb (length a) (length b)) refl
-  where
-    go : (t : Bool) → leb (length a) (length b) ≡ t → cond t (length a) (length b) ≤ length a
-    go true e = omega arith
-    go false e = let l : length b < length a = leb-false (length a) (length b) e in omega arith
+shorter_a a b = omega arith
 
 pub shorter_b : (a b : List ℕ) → shorter a b ≤ length b
-shorter_b a b = go (leb (length a) (length b)) refl
-  where
-    go : (t : Bool) → leb (length a) (length b) ≡ t → cond t (length a) (length b) ≤ length b
-    go true e = leb-true (length a) (length b) e
-    go false e = omega arith
+shorter_b a b = omega arith
 
 none_of : {A : Type 0} (l : List A) → length l ≡ 0 → l ≡ []
 none_of [] e = refl

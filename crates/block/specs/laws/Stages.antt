@@ -1,10 +1,9 @@
 -- The walk that plays: what holds before each stage, from one stage to the next, and at the end. Assumes nothing.
-use Rattle.std.specs.Prelude.{◌≡◌, ◌⊎◌, Bool, true, false, cond, ℕ, ◌+◌, ◌-◌, ◌*◌, ◌≤◌, ◌<◌, eqb, leb, length, take, drop, get_or, set, Ok}
+use Rattle.std.specs.Prelude.{◌≡◌, ◌⊎◌, Bool, true, false, cond, ℕ, ◌+◌, ◌*◌, ◌≤◌, ◌<◌, eqb, leb, length, take, drop, get_or, set, Ok}
 use Rattle.std.proofs.Math.Path.{refl, ap, subst}
 use Rattle.std.proofs.Common.{sym, ◌∙◌, inl, inr, ⊎_elim, le_refl, arith, eq-eqb, ne_eqb, eqb-true, leb-true, length-set}
 use mathlib.Core.List.{List, ◌++◌}
 use Rattle.std.proofs.lemmas.Bool.{eqb-false}
-use Rattle.std.proofs.lemmas.List.{set-get_or}
 use Rattle.pcm.specs.declared.PcmFormat.{PcmFormat}
 use Rattle.pcm.specs.declared.Error.TheVariants.{BufferTooSmall}
 use Rattle.pcm.specs.Refusals.{ask}
@@ -12,13 +11,10 @@ use Rattle.pcm.specs.Samples.{Bytes}
 use Rattle.pcm.specs.Frames.{Frame, FramesOf, frames_of, bytes_of, written}
 use Rattle.pcm.specs.laws.Frames.{bytes_frames, length_frames, length_written}
 use Rattle.stage.specs.declared.Stage.{Stage}
-use Rattle.stage.specs.declared.StageKind.{StageKind}
-use Rattle.stage.specs.declared.StageKind.TheVariants as kind
 use Rattle.stage.specs.declared.SoundMemory.{SoundMemory}
-use Rattle.stage.specs.Stages.{remembers, keeps_of, stage_out, stage_next, stage_clipped, format_after}
+use Rattle.stage.specs.Stages.{stage_out, stage_clipped, format_after}
 use Rattle.stage.specs.Rooms.{stage_suits, frames_wanted}
 use Rattle.stage.specs.laws.Rooms.{stage_count, wanted_holds}
-use Rattle.pcm.specs.laws.Tests.{true_false}
 use Rattle.pipeline.specs.declared.Pipeline.{Pipeline}
 use Rattle.block.specs.Chain.{chain_out, chain_next, chain_clipped}
 use Rattle.block.specs.laws.Chain.{chain_clipped-nil}
@@ -33,17 +29,10 @@ use Rattle.block.specs.laws.Bounds.{legal_parts}
 use Rattle.block.specs.laws.Turns.{Turns, Ended, Reached}
 use Rattle.block.specs.Turns.{Accepts}
 use Rattle.answers.specs.Answers.{unstaged, next_stage}
+use Rattle.chains.specs.Chains.{with_stages}
 use Rattle.block.specs.laws.Reaching.{Sized, positive, shorter_a, shorter_b, format_none, passed_none, turns_of, takes, suit_here, ahead, source_out, none_out, next_reached, sized_out, stopped, ended, begun}
 use Rattle.stage.specs.laws.Places.{no_stage}
 use Rattle.block.specs.laws.Counts.{no_stages, some_stages, all_stages, halves_some}
-
--- each turn comes closer to the end
-pub next_less : (i count len n : ℕ) → i < count → n ≡ next_stage i count len → count - n < count - i
-next_less i count len n h e = rw e (go (eqb len 0))
-  where
-    go : (t : Bool) → count - cond t count (i + 1) < count - i
-    go true = omega arith
-    go false = omega arith
 
 -- after a stage that delivers something the next one has its turn, after any other none
 pub stage_after : (i count len : ℕ) → (len ≡ 0 → ⊥) → i + 1 ≡ next_stage i count len
@@ -51,10 +40,6 @@ stage_after i count len h = rw (ne_eqb len 0 h)
 
 pub stage_last : (i count len : ℕ) → len ≡ 0 → count ≡ next_stage i count len
 stage_last i count len h = rw (eq-eqb len 0 h)
-
--- a chain with other stages
-unfoldable pub with_stages : Pipeline → List Stage → Pipeline
-with_stages c stages = record { stages = stages; count = c.count; format = c.format; blocks = c.blocks; empty_blocks = c.empty_blocks }
 
 -- the frames that reach stage i + 1
 abbrev pub reaching : PcmFormat → ℕ → ℕ → List ℕ → Halves → List Frame
@@ -79,19 +64,6 @@ pub record Plays (old : Pipeline) (count : ℕ) (format : PcmFormat) (block : Li
   pub chain : c ≡ with_stages old c.stages
   pub place : Reached old.stages count format block before short c.stages f n i h ⊎ ((i ≡ count) × Ended old.stages count format block before c.stages f n h)
   pub clips : ClipsAt (take count old.stages) count format block f n i h clipped
-
--- a stage that remembers nothing stays as it was
-plain_next : (s : Stage) (xs : List Frame) → remembers s.kind ≡ false → stage_next s xs ≡ s
-unfolding stage_next
-plain_next s xs h = ap (λ (m : SoundMemory). record { kind = s.kind; memory = m }) (go s.kind h)
-  where
-    go : (k : StageKind) → remembers k ≡ false → keeps_of k s.memory xs ≡ s.memory
-    go (kind.Gain g) h = refl
-    go kind.MonoToStereo h = refl
-    go kind.StereoToMono h = refl
-    go (kind.Resample r) h = absurd (true_false h)
-    go (kind.DcBlock b) h = absurd (true_false h)
-    go (kind.Biquad b) h = absurd (true_false h)
 
 module _ (old : Pipeline) (count : ℕ) (format : PcmFormat) (block : List ℕ) (before : Halves) (short : ℕ)
     (c : Pipeline) (f : PcmFormat) (n i : ℕ) (h : Halves) (clipped : ℕ) (p : Plays old count format block before short c f n i h clipped) where
@@ -210,21 +182,6 @@ module _ (old : Pipeline) (count : ℕ) (format : PcmFormat) (block : List ℕ) 
             place = place_next;
             clips = clips_here;
           }
-
-      -- the stage stayed as it was
-      pub stayed : (k : ℕ) → k ≡ next_stage i count len → (c' : Pipeline) → c' ≡ c → remembers s.kind ≡ false → Plays old count format block before short c' g len k h' (clipped + held)
-      unfolding with_stages
-      stayed k q c' m r = stored k q c' (m ∙ as_it_was ∙ ap (λ (x : Stage). with_stages c (set c.stages i x)) (sym (t.does.serves.keeps ∙ plain_next s _ r)))
-        where
-          as_it_was : c ≡ with_stages c (set c.stages i s)
-          as_it_was = ap (λ (l : List Stage). record { stages = l; count = c.count; format = c.format; blocks = c.blocks; empty_blocks = c.empty_blocks }) (sym (set-get_or c.stages i no_stage))
-
--- past the last stage that was run
-pub record Played (old : Pipeline) (count : ℕ) (format : PcmFormat) (block : List ℕ) (before : Halves) (short : ℕ)
-    (c : Pipeline) (f : PcmFormat) (n : ℕ) (h : Halves) (clipped : ℕ) : Type 0 where
-  pub last : ℕ
-  pub plays : Plays old count format block before short c f n last h clipped
-  pub over : count ≤ last
 
 -- ---- before the first stage
 pub copy_room_lem : (c : Pipeline) (block a b : List ℕ) → c.count ≡ 0 → Accepts c block a b → length block ≤ shorter a b

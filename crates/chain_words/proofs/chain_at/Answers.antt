@@ -10,4 +10,4 @@ pub returns : goal.returns
 unfolding chain_at
 returns c =
     let e = c.stages_of.ensures in
-    (rw (e, c.count_of.ensures, c.format_of.ensures, c.counter_at.ensures, c.counter_at-2.ensures), subst (λ (l : List Stage). All Small l) (sym e) (small_stages c.args.w.now c.type_inv.w 0 8))
+    (rw (e, c.count_of.ensures, c.format_of.ensures, c.counter_at.ensures, c.counter_at-2.ensures), subst (λ (l : List Stage). All Small l) (sym e) (small_stages c.args.w.now c.fits-w 0 8))

@@ -120,6 +120,10 @@ pub too_few : (w : List ℕ) → length w < 152 → chain_of_words w ≡ no_chai
 unfolding chain_of_words stands
 too_few w h = rw (lt-leb 152 (length w) h)
 
+pub too_few_stand : (w : List ℕ) → length w < 152 → stands w ≡ false
+unfolding stands
+too_few_stand w h = rw (lt-leb 152 (length w) h)
+
 -- where words stand for a chain there are enough of them
 pub stands_long : (w : List ℕ) → stands w ≡ true → 152 ≤ length w
 unfolding stands

@@ -126,7 +126,7 @@ same_kinds a b i zero h = refl
 same_kinds a b i (suc n) h = ap₂ (λ (x y : Bool). x && y) (ap of_stage (h i)) (same_kinds a b (suc i) n h)
 
 -- ---- memories and counters
-length_walked : (w : List ℕ) (l : List Stage) (blocks empty : ℕ) → length (with_sound w l blocks empty) ≡ length w
+pub length_walked : (w : List ℕ) (l : List Stage) (blocks empty : ℕ) → length (with_sound w l blocks empty) ≡ length w
 unfolding with_sound
 length_walked w l blocks empty = length-sets (kept_words w 0 l) 3 (counter_words blocks empty) ∙ length_kept l w 0
 

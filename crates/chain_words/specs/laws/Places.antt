@@ -14,6 +14,10 @@ use Rattle.stage_words.specs.laws.Reading.{length_memory, length_stage, kind_sam
 use Rattle.words.specs.laws.Runs.{before_run, after_run, from_run}
 use Rattle.chain_words.specs.Layout.{place_of, stage_at}
 
+-- words of 32 bits are so at each place
+pub place_small : (w : List ℕ) (i : ℕ) → ((j : ℕ) → word w j < 4294967296) → (j : ℕ) → word (place_of w i) j < 4294967296
+place_small w i h j = rw (get_or-drop (8 + 18 * i) w j 0) (h (8 + 18 * i + j))
+
 module _ (w : List ℕ) (i : ℕ) where
   -- a stage that was written stands there
   pub stage_written : (s : Stage) → HeldStage s → Small s → 8 + 18 * i + 18 ≤ length w → stage_at (sets w (8 + 18 * i) (words_of_stage s)) i ≡ s

@@ -11,6 +11,6 @@ unfolding mixed_bytes
 returns c =
     let a = c.args.a.now in
     let b = c.args.b.now in
-    c.write_samples.ensures (mixed_samples (decode a) (decode b)) (length_mixed_samples (decode a) (decode b) (same_decoded a b c.requires.1) ∙ length_decode a)
+    c.write_samples.ensures (mixed_samples (decode a) (decode b)) (length_mixed_samples (decode a) (decode b) (same_decoded a b c.requires.0) ∙ length_decode a)
     (λ k z h p.
     rw (mixed_at (decode a) (decode b) k (omega (arith, length_decode a)) (omega (arith, length_decode b)), get_or_decode a k (pos 0) (omega arith), get_or_decode b k (pos 0) (omega arith)) (search rules))

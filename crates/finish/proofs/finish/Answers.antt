@@ -1,7 +1,6 @@
-use Rattle.std.proofs.Common.{sym, ap, ◌∙◌}
-use Rattle.finish.specs.FinishCall.{finish_verdict}
-use Rattle.finish.proofs.Telling.{told_accepted}
+-- `finish::finish` meets its contract. Assumes nothing.
+use Rattle.finish.proofs.Telling.{with_told}
 use Rattle.finish.proofs.finish.Goals as goal
 
-pub returns-in-Ok-clause-told : goal.returns-in-Ok-clause-told
-returns-in-Ok-clause-told c = told_accepted _ _ _ _ (ap (finish_verdict c.args.chain) (sym c.shorter_of-shorter.ensures) ∙ sym c.finish_question.ensures ∙ c.in-Ok.is) c.play.ensures
+pub returns-clause-told : goal.returns-clause-told
+returns-clause-told c = with_told _ _ _ _ c.call-answer.ensures.all

@@ -10,7 +10,7 @@ use Rattle.ending.specs.StageEnd.{stage_end}
 use Rattle.ending.specs.laws.StageEnd.{stage_end_count}
 use Rattle.questions.specs.declared.Question.TheVariants.{Finish}
 use Rattle.questions.specs.declared.Walk.{Walk}
-use Rattle.questions.specs.Walk.{due_of, walked}
+use Rattle.questions.specs.Walk.{due_of, along}
 use Rattle.block.specs.BlockCall.{suited}
 use Rattle.block.specs.laws.Beforehand.{frames_through}
 use Rattle.finish.specs.FinishCall.{chain_end}
@@ -28,6 +28,5 @@ unfolding due_of
 due_is f s xs h = sym (stage_end_count f f.channels s xs h)
 
 -- exactly as many as the stages that take xs and end deliver
-pub frames_ending : (shorter : ℕ) (w : Walk) (l : List Stage) (xs : List Frame) → w.legal ≡ true → suited w.format l ≡ true → w.frames ≡ length xs
-    → (walked Finish shorter w l).frames ≡ length (chain_end w.format l xs)
+pub frames_ending : (shorter : ℕ) (w : Walk) (l : List Stage) (xs : List Frame) → suited w.format l ≡ true → w.frames ≡ length xs → (along Finish shorter w l).frames ≡ length (chain_end w.format l xs)
 frames_ending = frames_through Finish (λ f. stage_end f.channels) chain_end none cons due_is

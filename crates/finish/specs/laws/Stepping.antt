@@ -1,10 +1,11 @@
 -- The questions of a finish, one stage at a time, and that the walk asks them. Assumes nothing.
-use Rattle.std.specs.Prelude.{◌≡◌, Bool, cond, ◌&&◌, List, [], ◌∷◌, ℕ, ◌*◌, ◌≤◌, ◌<◌, eqb, leb, Ok, Err}
+use Rattle.std.specs.Prelude.{◌≡◌, Bool, cond, ◌&&◌, List, [], ◌∷◌, ℕ, ◌*◌, ◌≤◌, ◌<◌, eqb, leb, Option, None, Some, Result, Ok, Err}
 use Rattle.std.proofs.Math.Path.{refl, ap}
 use Rattle.std.proofs.Common.{sym, ap₂, ◌∙◌, zero-mul, arith}
 use Rattle.std.proofs.Math.Bool.{true, false}
-use borrow.Author.Tests.{le-leb, lt-leb, leb-true, leb-false, eqb-true, eqb-false}
+use borrow.Author.Tests.{le-leb, lt-leb, leb-true, leb-false}
 use Rattle.pcm.specs.declared.PcmFormat.{PcmFormat}
+use Rattle.pcm.specs.declared.Error.{Error}
 use Rattle.pcm.specs.declared.Error.TheVariants.{InvalidFormat, BufferTooSmall}
 use Rattle.pcm.specs.Formats.{format_allowed}
 use Rattle.pcm.specs.Refusals.{ask, Verdict}
@@ -16,10 +17,9 @@ use Rattle.questions.specs.declared.Question.TheVariants.{Finish}
 use Rattle.questions.specs.declared.Walk.{Walk}
 use Rattle.pipeline.specs.WritingBack.{stages_of}
 use Rattle.block.specs.BlockCall.{legal, suited}
-use Rattle.questions.specs.Walk.{begun, head_legal, size_verdict, block_frames, due_of, first_short, room_of, further, copy_room, walked}
-use Rattle.block.specs.laws.Walking.{short_verdict, short_then, then_none, then_short, short_before, room_held, room_not_held, walked_legal, walked_cons, further_legal, further_format, legal_is}
+use Rattle.questions.specs.Walk.{begun, head_legal, size_verdict, block_frames, due_of, first_short, room_of, further, copy_room, walked, along, short_verdict}
+use Rattle.block.specs.laws.Walking.{short_then, short_before, room_held, room_not_held, if_suited, walked_is, legal_is}
 use Rattle.pcm.specs.laws.Refusals.{ask_yes}
-use Rattle.block.specs.laws.Bounds.{suited_rest}
 use Rattle.finish.specs.FinishCall.{room_at_end, end_verdict, finish_verdict}
 use Rattle.finish.specs.Turns.{end_from}
 
@@ -51,50 +51,41 @@ module _ (shorter : ℕ) (w : Walk) (s : Stage) (l : List Stage) where
   abbrev room : ℕ
   room = room_at_end w.format s w.frames
 
-  abbrev here : ℕ
-  here = first_short shorter w.short room
-
   abbrev then : Verdict
   then = end_verdict (format_after w.format s.kind) l (frames_at_end s.kind s.memory w.frames) shorter
 
   abbrev whole : Verdict
   whole = end_verdict w.format (s ∷ l) w.frames shorter
 
-  step_short : (t : Bool) → eqb w.short 0 ≡ t → (u : Bool) → leb room shorter ≡ u → short_then here then ≡ short_then w.short whole
-  step_short true e true k =
-      let z = eqb-true _ _ e in
+  room_asked : (u : Bool) → leb room shorter ≡ u → short_then (first_short shorter None room) then ≡ whole
+  room_asked true k =
       let h = leb-true room shorter k in
-      then_none here then (room_held shorter w.short room z h)
-      ∙ sym (end_next w.format s l w.frames shorter room (frames_at_end s.kind s.memory w.frames) (format_after w.format s.kind) refl h refl refl) ∙ sym (then_none w.short whole z)
-  step_short true e false k =
-      let z = eqb-true _ _ e in
+      ap (λ (o : Option ℕ). short_then o then) (room_held shorter room h)
+      ∙ sym (end_next w.format s l w.frames shorter room (frames_at_end s.kind s.memory w.frames) (format_after w.format s.kind) refl h refl refl)
+  room_asked false k =
       let h : shorter < room = leb-false room shorter k in
-      ap (λ (n : ℕ). short_then n then) (room_not_held shorter w.short room z h) ∙ then_short room then (λ q. let b : ⊥ = omega arith in b)
-      ∙ sym (end_short w.format s l w.frames shorter room refl h) ∙ sym (then_none w.short whole z)
-  step_short false e u k =
-      let z = eqb-false _ _ e in
-      ap (λ (n : ℕ). short_then n then) (short_before shorter w.short room z) ∙ then_short w.short then z ∙ sym (then_short w.short whole z)
+      ap (λ (o : Option ℕ). short_then o then) (room_not_held shorter room h) ∙ sym (end_short w.format s l w.frames shorter room refl h)
 
-  further_short : short_then (further Finish shorter w s).short (end_verdict (further Finish shorter w s).format l (further Finish shorter w s).frames shorter) ≡ short_then here then
+  step_short : (short : Option ℕ) → short_then (first_short shorter short room) then ≡ short_then short whole
+  step_short None = room_asked (leb room shorter) refl
+  step_short (Some n) = ap (λ (o : Option ℕ). short_then o then) (short_before shorter room n)
+
+  further_short : short_then (further Finish shorter w s).short (end_verdict (further Finish shorter w s).format l (further Finish shorter w s).frames shorter) ≡ short_then (first_short shorter w.short room) then
   unfolding further room_of due_of room_at_end
   further_short = refl
 
 no_more : (w : Walk) (shorter : ℕ) → short_verdict w.short ≡ short_then w.short (end_verdict w.format [] w.frames shorter)
-no_more w shorter = go (eqb w.short 0) ∙ ap (short_then w.short) (sym (end_none w.format w.frames shorter))
+no_more w shorter = go w.short ∙ ap (short_then w.short) (sym (end_none w.format w.frames shorter))
   where
-    go : (t : Bool) → ask t (BufferTooSmall (2 * w.short)) (Ok tt) ≡ cond t (Ok tt) (Err (BufferTooSmall (2 * w.short)))
-    go true = refl
-    go false = refl
+    go : (o : Option ℕ) → short_verdict o ≡ short_then o (Ok tt)
+    go None = refl
+    go (Some n) = refl
 
 -- the first stage short is the one that the verdict names
-walked_end : (shorter : ℕ) (w : Walk) (l : List Stage) → w.legal ≡ true → suited w.format l ≡ true
-    → short_verdict (walked Finish shorter w l).short ≡ short_then w.short (end_verdict w.format l w.frames shorter)
-unfolding walked
-walked_end shorter w [] h u = no_more w shorter
-walked_end shorter w (s ∷ l) h u =
-    ap (λ (v : Walk). short_verdict v.short) (walked_cons Finish shorter w s l h u)
-    ∙ walked_end shorter (further Finish shorter w s) l (further_legal Finish shorter w s) (ap (λ (f : PcmFormat). suited f l) (further_format Finish shorter w s) ∙ suited_rest w.format s l u)
-    ∙ further_short shorter w s l ∙ step_short shorter w s l (eqb w.short 0) refl (leb (room_at_end w.format s w.frames) shorter) refl
+along_end : (shorter : ℕ) (w : Walk) (l : List Stage) → short_verdict (along Finish shorter w l).short ≡ short_then w.short (end_verdict w.format l w.frames shorter)
+unfolding along
+along_end shorter w [] = no_more w shorter
+along_end shorter w (s ∷ l) = along_end shorter (further Finish shorter w s) l ∙ further_short shorter w s l ∙ step_short shorter w s l w.short
 
 -- ---- what the walk answers is the verdict
 pub head_refused : (c : Pipeline) (shorter : ℕ) → head_legal c.format c.count ≡ false → Err InvalidFormat ≡ finish_verdict c shorter
@@ -112,10 +103,6 @@ module _ (f : PcmFormat) (count shorter : ℕ) where
   unfolding block_frames size_verdict
   none_arrive = refl
 
-  start_legal : (begun f count 0 shorter).legal ≡ true
-  unfolding begun
-  start_legal = refl
-
   start_format : (begun f count 0 shorter).format ≡ f
   unfolding begun
   start_format = refl
@@ -131,27 +118,30 @@ module _ (f : PcmFormat) (count shorter : ℕ) where
       go true = zero-mul (f.channels * 2)
       go false = refl
 
-  start_short : (begun f count 0 shorter).short ≡ 0
+  start_short : (begun f count 0 shorter).short ≡ None
   unfolding begun
-  start_short = ap (first_short shorter 0) no_room ∙ room_held shorter 0 0 refl (omega arith)
+  start_short = ap (first_short shorter None) no_room ∙ room_held shorter 0 (omega arith)
 
 module _ (c : Pipeline) (shorter : ℕ) (head : head_legal c.format c.count ≡ true) where
   abbrev start : Walk
   start = begun c.format c.count 0 shorter
 
-  legal_here : (walked Finish shorter start (stages_of c)).legal ≡ legal c
-  legal_here = walked_legal Finish shorter start (stages_of c) (start_legal c.format c.count shorter) ∙ ap (λ (f : PcmFormat). suited f (stages_of c)) (start_format c.format c.count shorter) ∙ sym (legal_is c 0 head)
-
-  short_here : legal c ≡ true → short_verdict (walked Finish shorter start (stages_of c)).short ≡ end_verdict c.format (stages_of c) 0 shorter
-  short_here h =
-      walked_end shorter start (stages_of c) (start_legal c.format c.count shorter) (ap (λ (f : PcmFormat). suited f (stages_of c)) (start_format c.format c.count shorter) ∙ sym (legal_is c 0 head) ∙ h)
-      ∙ then_none start.short (end_verdict start.format (stages_of c) start.frames shorter) (start_short c.format c.count shorter)
+  short_here : short_verdict (along Finish shorter start (stages_of c)).short ≡ end_verdict c.format (stages_of c) 0 shorter
+  short_here =
+      along_end shorter start (stages_of c) ∙ ap (λ (o : Option ℕ). short_then o (end_verdict start.format (stages_of c) start.frames shorter)) (start_short c.format c.count shorter)
       ∙ ap₂ (λ (f : PcmFormat) (n : ℕ). end_verdict f (stages_of c) n shorter) (start_format c.format c.count shorter) (start_frames c.format c.count shorter)
 
   pub end_is : end_from (walked Finish shorter start (stages_of c)) ≡ finish_verdict c shorter
   unfolding end_from finish_verdict
-  end_is = ap (λ (t : Bool). ask t InvalidFormat (short_verdict (walked Finish shorter start (stages_of c)).short)) legal_here ∙ go (legal c) refl
+  end_is =
+      ap end_from (walked_is Finish shorter start (stages_of c)) ∙ go (suited start.format (stages_of c))
+      ∙ ap (λ (t : Bool). ask t InvalidFormat (end_verdict c.format (stages_of c) 0 shorter)) (ap (λ (f : PcmFormat). suited f (stages_of c)) (start_format c.format c.count shorter) ∙ sym (legal_is c 0 head))
     where
-      go : (t : Bool) → legal c ≡ t → ask t InvalidFormat (short_verdict (walked Finish shorter start (stages_of c)).short) ≡ ask t InvalidFormat (end_verdict c.format (stages_of c) 0 shorter)
-      go true h = short_here h
-      go false h = refl
+      go : (t : Bool) → end_from (if_suited t (along Finish shorter start (stages_of c))) ≡ ask t InvalidFormat (end_verdict c.format (stages_of c) 0 shorter)
+      go true = short_here
+      go false = refl
+
+-- the same, of a walk that was begun so
+pub end_found : (c : Pipeline) (shorter : ℕ) (begin : Walk) (r : Result Walk Error) → head_legal c.format c.count ≡ true → begin ≡ begun c.format c.count 0 shorter
+    → r ≡ walked Finish shorter begin (stages_of c) → end_from r ≡ finish_verdict c shorter
+end_found c shorter begin r head b e = ap end_from (e ∙ ap (λ (x : Walk). walked Finish shorter x (stages_of c)) b) ∙ end_is c shorter head

@@ -1,15 +1,15 @@
-use Rattle.std.proofs.Common.{◌≡◌, ◌≤◌, ◌+◌, length}
-use Rattle.recipe.specs.Records.{records}
+use Rattle.std.proofs.Common.{◌≡◌, ◌+◌, length}
+use Rattle.recipe.specs.Records.{records, WholeRecords}
 use Rattle.note_lines.specs.Lines.{lines_of}
 use Rattle.note_lines.specs.laws.Lines.{record_lines}
 use Rattle.note_lines.proofs.lines_size.Given as goal
 
-abbrev pub invariant-loop-kind : goal.invariant-loop-kind
-invariant-loop-kind l =
-    let left = l.kind-iterator.left.now in
+abbrev pub invariant-loop-left : goal.invariant-loop-left
+invariant-loop-left l =
+    let left = records l.left-iterator.left.now in
     record {
-      whole : (goal.iterator-loop-kind).can_next l.kind-iterator;
-      ends : (goal.iterator-loop-kind).is_finite l.kind-iterator;
-      within : length left ≤ length l.recipe;
-      total : l.size + length (record_lines (records left)) ≡ length (lines_of l.recipe);
+      can : (goal.iterator-loop-left).can_next l.left-iterator;
+      ends : (goal.iterator-loop-left).is_finite l.left-iterator;
+      whole : WholeRecords left;
+      total : l.size + length (record_lines left) ≡ length (lines_of l.recipe);
     }

@@ -4,7 +4,7 @@ use Rattle.pcm.specs.declared.PcmFormat.{PcmFormat}
 use Rattle.pcm.specs.Frames.{written}
 use Rattle.pcm.specs.Refusals.{room_verdict, Verdict}
 use Rattle.pcm.specs.laws.Refusals.{room_enough}
-use Rattle.pipeline.specs.laws.WritingBack.{concluded, wrote}
+use Rattle.pipeline.specs.laws.WritingBack.{concluded, wrote, Promised}
 use Rattle.note_lines.specs.Arguments.{format_of}
 use Rattle.note_lines.specs.Page.{desk_verdict, printed, page_of, page_call}
 use Rattle.note_lines.specs.laws.Page.{desk_readable}
@@ -22,23 +22,16 @@ asked shown page n room v p s e = ap (λ (k : ℕ). room_verdict k room) (sym (s
 pub page_size-needed-requires : goal.page_size-needed-requires
 page_size-needed-requires c = desk_readable _ _ _ c.desk_question-verdict.ensures
 
-pub returns-in_err-require_room-clause-all : goal.returns-in_err-require_room-clause-all
+pub returns-in_err-require_room : goal.returns-in_err-require_room
 unfolding page_call
-returns-in_err-require_room-clause-all c =
+returns-in_err-require_room c =
     let a = c.args in
+    let page = page_of a.rate.now a.channels.now a.recipe.now in
     let p = page_is a.rate.now a.channels.now a.recipe.now _ _ c.format-format.ensures c.desk_question-verdict.ensures in
     let v = asked _ _ _ _ _ p c.page_size-needed.ensures (sym c.in_err-require_room.was ∙ c.require_room.ensures) in
     let e : c.from_residual.result ≡ Err c.in_err-require_room.field-0.0 = search rules in
-    rw e (concluded _ (page_of a.rate.now a.channels.now a.recipe.now) a.out.now (Err c.in_err-require_room.field-0.0) a.out.now (Err _) v refl).0
-
-pub returns-in_err-require_room-clause-told : goal.returns-in_err-require_room-clause-told
-unfolding page_call
-returns-in_err-require_room-clause-told c =
-    let a = c.args in
-    let p = page_is a.rate.now a.channels.now a.recipe.now _ _ c.format-format.ensures c.desk_question-verdict.ensures in
-    let v = asked _ _ _ _ _ p c.page_size-needed.ensures (sym c.in_err-require_room.was ∙ c.require_room.ensures) in
-    let e : c.from_residual.result ≡ Err c.in_err-require_room.field-0.0 = search rules in
-    rw e (concluded _ (page_of a.rate.now a.channels.now a.recipe.now) a.out.now (Err c.in_err-require_room.field-0.0) a.out.now (Err _) v refl).1
+    let r : Promised (room_verdict (length page) (length a.out.now)) page a.out.now c.from_residual.result a.out.now = rw e (concluded _ page a.out.now (Err c.in_err-require_room.field-0.0) a.out.now (Err _) v refl) in
+    record { all = r.0; told = r.1 }
 
 pub write_page-requires : goal.write_page-requires
 write_page-requires c =

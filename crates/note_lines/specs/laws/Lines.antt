@@ -1,11 +1,11 @@
 -- Laws of the definitions in Lines: the lines, record by record. Assumes nothing.
-use Rattle.std.specs.Prelude.{◌≡◌, refl, Bool, true, false, cond, List, [], ◌∷◌, ◌++◌, map, ℕ, ◌+◌, ◌-◌, ◌*◌, ◌≤◌, ◌<◌, length, drop}
+use Rattle.std.specs.Prelude.{◌≡◌, refl, Bool, true, false, cond, List, [], ◌∷◌, ◌++◌, map, ℕ, ◌+◌, ◌-◌, ◌*◌, ◌≤◌, length, drop}
 use Rattle.std.proofs.Common.{ap, ap₂, ◌∙◌, append-nil, arith, length-append, length-drop, length-take-le}
 use Rattle.pcm.specs.Frames.{flat}
 use Rattle.pcm.specs.laws.Frames.{flat_append, map_append}
 use Rattle.recipe.specs.Records.{of_note, length_at, kind_at, records, record_here, WholeRecords}
 use Rattle.recipe.specs.Notes.{Note, note_at, note_here, notes_in}
-use Rattle.recipe.specs.laws.Records.{Whole, whole_record, after_next, records_none, records_next}
+use Rattle.recipe.specs.laws.Records.{Whole, whole_record}
 use Rattle.recipe.specs.laws.Notes.{records_joined}
 use Rattle.note_lines.specs.Lines.{hex_of, line_of, lines_of}
 
@@ -15,13 +15,6 @@ line_if kind text = cond (of_note kind) (line_of (record { kind = kind; text = t
 
 abbrev pub line_here : List ℕ → List ℕ
 line_here left = line_if (kind_at left) (note_at left).text
-
--- a record taken off the bytes that are left: its kind, the bytes after that, and what is left then
-pub record RecordTaken (left : List ℕ) (kind : ℕ) (text after : List ℕ) : Type 0 where
-  pub some : 0 < length left
-  pub kind_is : kind ≡ kind_at left
-  pub text_is : text ≡ (note_at left).text
-  pub after_is : after ≡ after_next left
 
 -- the lines of records
 unfoldable pub record_lines : List (List ℕ) → List ℕ
@@ -42,13 +35,13 @@ pub lines_are : (bytes : List ℕ) → lines_of bytes ≡ record_lines (records 
 unfolding lines_of record_lines notes_in
 lines_are bytes = lines_of_records (records bytes)
 
-pub lines_none : record_lines (records []) ≡ []
+pub lines_none : record_lines [] ≡ []
 unfolding record_lines
-lines_none = ap (λ (rs : List (List ℕ)). flat (map line_here rs)) records_none
+lines_none = refl
 
-pub lines_next : (left : List ℕ) → 0 < length left → record_lines (records left) ≡ line_here left ++ record_lines (records (after_next left))
+pub lines_next : (left : List ℕ) (later : List (List ℕ)) → record_lines (left ∷ later) ≡ line_here left ++ record_lines later
 unfolding record_lines
-lines_next left h = ap (λ (rs : List (List ℕ)). flat (map line_here rs)) (records_next left h)
+lines_next left later = refl
 
 -- ---- lengths
 pub length_hex : (bytes : List ℕ) → length (flat (map hex_of bytes)) ≡ 2 * length bytes

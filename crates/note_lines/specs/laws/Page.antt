@@ -6,10 +6,10 @@ use Rattle.pcm.specs.declared.Error.{Error}
 use Rattle.pcm.specs.declared.Error.TheVariants.{TooLong}
 use Rattle.pipeline.specs.declared.Pipeline.{Pipeline}
 use Rattle.pcm.specs.Refusals.{refusal, verdict_of, Verdict}
-use Rattle.pcm.specs.laws.Refusals.{ask_yes}
 use Rattle.recipe.specs.Records.{records, WholeRecords}
 use Rattle.pipeline.specs.Opening.{open_call}
 use Rattle.pipeline.proofs.Theorems.{opened_whole}
+use Rattle.desk.specs.Desk.{desk_open}
 use Rattle.note_lines.specs.Lines.{digit}
 use Rattle.note_lines.specs.Page.{desk_verdict, number_line, printed}
 use Rattle.note_lines.specs.laws.Lines.{lines_fit}
@@ -26,11 +26,13 @@ accepted_whole f recipe h = go (open_call f recipe) refl h
     go (Ok c) e h = opened_whole f recipe c e
     go (Err x) e h = cc
 
+within_limit : (f : PcmFormat) (recipe : List ℕ) (t : Bool) → leb (length recipe) 1048576 ≡ t → verdict_of (cond t (open_call f recipe) (Err TooLong)) ≡ Ok tt → Readable (Ok tt) recipe
+within_limit f recipe true e h = (accepted_whole f recipe h, leb-true (length recipe) 1048576 e)
+within_limit f recipe false e h = cc
+
 pub desk_readable : (f : PcmFormat) (recipe : List ℕ) (v : Verdict) → v ≡ desk_verdict f recipe → Readable v recipe
-unfolding desk_verdict
-desk_readable f recipe (Ok _) e =
-    let a = ask_yes (leb (length recipe) 1048576) TooLong (verdict_of (open_call f recipe)) (sym e) in
-    (accepted_whole f recipe a.1, leb-true (length recipe) 1048576 a.0)
+unfolding desk_verdict desk_open
+desk_readable f recipe (Ok _) e = within_limit f recipe (leb (length recipe) 1048576) refl (sym e)
 desk_readable f recipe (Err x) e = tt
 
 -- ---- sizes

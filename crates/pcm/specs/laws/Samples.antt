@@ -2,47 +2,17 @@
 use Rattle.std.specs.Prelude.{◌≡◌, refl, Bool, true, false, cond, List, [], ◌∷◌, ◌++◌, ℕ, zero, suc, ◌+◌, ◌*◌, ◌/◌, ◌%◌, ◌≤◌, ◌<◌, ℤ, pos, negsuc, ◌-ℤ◌, length, get_or}
 use Rattle.std.proofs.Common.{sym, ap, ap₂, ◌∙◌, ⊎_elim, suc-le-suc, zero-le, not-suc-le-zero, arith, ltb-false, lt-ltb, le-ltb, SFits, to_z, of_z, to_z-of_z}
 use Rattle.std.specs.Int.Signed.{lt_z}
-use Rattle.std.specs.Int.{Width, w16, w32, int_max, int_min}
+use Rattle.std.specs.Int.{w16, w32, int_max, int_min}
 use Rattle.std.proofs.lemmas.Grind.{common_steps}
 use Rattle.std.proofs.Math.Facts.{to_z_pos, of_z-to_z, sfits_to_z, sfits_lit}
 use Rattle.pcm.specs.Integers.{−}
-use Rattle.pcm.specs.laws.Integers.{read_back}
 use Rattle.pcm.specs.laws.Tests.{lt_or_ge}
-use Rattle.pcm.specs.Samples.{held, held16, outside, sample_of, low_of, high_of, decode, encode, sample_at, All, Bytes, Samples}
+use Rattle.pcm.specs.Samples.{held, held16, sample_of, low_of, high_of, decode, encode, sample_at, All, Bytes, Samples}
 
 -- ---- holding
-module _ (low high z : ℤ) where
-  pub held_low : lt_z z low ≡ true → low ≡ held low high z
-  unfolding held
-  held_low e = rw e
-
-  pub held_high : lt_z z low ≡ false → lt_z high z ≡ true → high ≡ held low high z
-  unfolding held
-  held_high e k = rw (e, k)
-
-  pub held_inside : lt_z z low ≡ false → lt_z high z ≡ false → z ≡ held low high z
-  unfolding held
-  held_inside e k = rw (e, k)
-
--- the same by tests on a machine number of the width w
-module _ (w : Width) (low high z : ℤ) (f : SFits w z) where
-  pub tested_low : lt_z (to_z w (of_z w z)) low ≡ true → low ≡ held low high z
-  tested_low e = held_low low high z (rw (read_back f) at e)
-
-  pub tested_high : lt_z (to_z w (of_z w z)) low ≡ false → lt_z high (to_z w (of_z w z)) ≡ true → high ≡ held low high z
-  tested_high e k = held_high low high z (rw (read_back f) at e) (rw (read_back f) at k)
-
-  pub tested_inside : lt_z (to_z w (of_z w z)) low ≡ false → lt_z high (to_z w (of_z w z)) ≡ false → to_z w (of_z w z) ≡ held low high z
-  tested_inside e k = read_back f ∙ held_inside low high z (rw (read_back f) at e) (rw (read_back f) at k)
-
-  -- the same of lying outside
-  pub outside_low : lt_z (to_z w (of_z w z)) low ≡ true → true ≡ outside low high z
-  unfolding outside
-  outside_low e = rw (rw (read_back f) at e)
-
-  pub outside_rest : lt_z (to_z w (of_z w z)) low ≡ false → lt_z high (to_z w (of_z w z)) ≡ outside low high z
-  unfolding outside
-  outside_rest e = rw (rw (read_back f) at e, read_back f)
+pub held_inside : (low high z : ℤ) → lt_z z low ≡ false → lt_z high z ≡ false → z ≡ held low high z
+unfolding held
+held_inside low high z e k = rw (e, k)
 
 pub inside16 : (z : ℤ) → lt_z z (− 32768) ≡ false → lt_z (pos 32767) z ≡ false → SFits w16 z
 inside16 (pos n) e k = record { sfits = omega (arith, ltb-false 32767 n k) }

@@ -52,11 +52,6 @@ next_pair l i h =
     let n : suc (i + 1) ≡ i + 2 = omega arith in
     drop-cons l i 0 (omega arith) ∙ ap (λ (t : List ℕ). get_or l i 0 ∷ t) (rw (← add-one i, drop-cons l (i + 1) 0 h, n))
 
-pub next_four : (l : List ℕ) (i : ℕ) → i + 3 < length l → drop i l ≡ get_or l i 0 ∷ get_or l (i + 1) 0 ∷ get_or l (i + 2) 0 ∷ get_or l (i + 2 + 1) 0 ∷ drop (i + 4) l
-next_four l i h =
-    let e : i + 2 + 2 ≡ i + 4 = omega arith in
-    next_pair l i (omega arith) ∙ ap (λ (t : List ℕ). get_or l i 0 ∷ get_or l (i + 1) 0 ∷ t) (rw e at (next_pair l (i + 2) (omega arith)))
-
 -- `rest` is what F makes of what is left to read, and nothing is left
 pub writing_end : (F : List ℕ → List ℕ) (l : List ℕ) (i : ℕ) {goal : List ℕ} {m : ℕ} {out₀ out : List ℕ} {j : ℕ}
     → Writing goal (F (drop i l)) m out₀ out j → length l ≤ i → F [] ≡ [] → j ≡ m → out ≡ goal

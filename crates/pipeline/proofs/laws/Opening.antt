@@ -1,6 +1,6 @@
 -- Laws of the definitions in Opening. Assumes nothing.
 use Rattle.pcm.specs.Refusals.{Verdict}
-use Rattle.std.specs.Prelude.{◌≡◌, refl, true, false, List, [], ℕ, ◌-◌, ◌<◌, ltb, length, Ok, Err}
+use Rattle.std.specs.Prelude.{◌≡◌, refl, true, false, List, [], ◌∷◌, ℕ, ◌-◌, ◌<◌, ltb, Ok, Err}
 use Rattle.std.proofs.Common.{arith, ltb-true}
 use Rattle.pcm.specs.declared.PcmFormat.{PcmFormat}
 use Rattle.pcm.specs.declared.Error.{Error}
@@ -10,7 +10,7 @@ use Rattle.stage.specs.Stages.{stage_as_opened, format_after}
 use Rattle.pcm.specs.laws.Refusals.{ask_yes}
 use Rattle.recipe.specs.declared.Record.{Record}
 use Rattle.recipe.specs.Records.{of_note, kind_at, record_at, record_verdict}
-use Rattle.recipe.specs.laws.Records.{after_next, records_none, records_next}
+use Rattle.recipe.specs.laws.Records.{records_none}
 use Rattle.pipeline.specs.Opening.{opened, refused, front, next_kind, open_records, open_stages}
 use Rattle.opening.specs.Opening.{settings_allowed, record_suits, stage_verdict, stage_kind_of, stage_answer_of, stage_answer}
 
@@ -46,22 +46,22 @@ pub open_none : (more : ℕ) (f : PcmFormat) → open_stages more f [] ≡ opene
 unfolding open_stages open_records
 open_none more f = rw records_none
 
-module _ (f : PcmFormat) (more : ℕ) (left : List ℕ) (h : 0 < length left) where
-  pub open_short : {x : Error} → record_verdict left ≡ Err x → open_stages more f left ≡ refused x
-  unfolding open_stages open_records
-  open_short e = rw (records_next left h, e)
+module _ (f : PcmFormat) (more : ℕ) (left : List ℕ) (later : List (List ℕ)) where
+  pub open_short : {x : Error} → record_verdict left ≡ Err x → open_records more f (left ∷ later) ≡ refused x
+  unfolding open_records
+  open_short e = rw e
 
   module _ (e : record_verdict left ≡ Ok tt) where
-    pub open_note : of_note (kind_at left) ≡ true → open_stages more f left ≡ open_stages more f (after_next left)
-    unfolding open_stages open_records
-    open_note n = rw (records_next left h, e, n)
+    pub open_note : of_note (kind_at left) ≡ true → open_records more f (left ∷ later) ≡ open_records more f later
+    unfolding open_records
+    open_note n = rw (e, n)
 
     module _ (s : of_note (kind_at left) ≡ false) where
-      pub open_unfit : {x : Error} → stage_verdict more f (record_at left) ≡ Err x → open_stages more f left ≡ refused x
-      unfolding open_stages open_records
-      open_unfit k = rw (records_next left h, e, s, k)
+      pub open_unfit : {x : Error} → stage_verdict more f (record_at left) ≡ Err x → open_records more f (left ∷ later) ≡ refused x
+      unfolding open_records
+      open_unfit k = rw (e, s, k)
 
       pub open_next : stage_verdict more f (record_at left) ≡ Ok tt
-          → open_stages more f left ≡ front (stage_as_opened (next_kind f left)) (open_stages (more - 1) (format_after f (next_kind f left)) (after_next left))
-      unfolding open_stages open_records
-      open_next k = rw (records_next left h, e, s, k)
+          → open_records more f (left ∷ later) ≡ front (stage_as_opened (next_kind f left)) (open_records (more - 1) (format_after f (next_kind f left)) later)
+      unfolding open_records
+      open_next k = rw (e, s, k)

@@ -1,64 +1,50 @@
 -- Laws of a sound cut to blocks. Assumes nothing.
-use mathlib.Core.Path.{◌≡◌, sym, ap, ◌∙◌}
-use mathlib.Core.List.{List}
-use Prim.Native.Nat.{ℕ, ◌+◌, ◌-◌, ◌*◌, ◌/◌, ◌%◌, ◌≤◌, ◌<◌}
-use native.Mathlib.Nat.{div-add-mod', div-eq_of_lt, add-div_right, mul-add-div_right, mod-lt, le-mul_of_pos_right}
-use native.Mathlib.Decide.{dec_lt}
-use native.Mathlib.Omega.{arith}
-use borrow.Author.Tests.{lt-ltb, le-ltb}
-use lib.ListN.{length, take, drop, length-drop, drop_of_length-le}
-use lib.Seq.{take_all, drop-drop}
+use Rattle.std.specs.Prelude.{◌≡◌, refl, List, [], ◌∷◌, ◌++◌, ℕ, suc, ◌+◌, ◌-◌, ◌/◌, ◌<◌, min, length, take, drop}
+use Rattle.std.proofs.Common.{sym, ap, ap₂, ◌∙◌, add-one, arith, inl, inr, append-nil, length-append}
+use native.Mathlib.Nat.{div-eq_of_lt, add-div_right}
+use lib.ListN.{drop_of_length-le}
+use lib.Seq.{take_all}
+use Rattle.std.proofs.Math.Seq.{take-append_seam, drop-append_seam}
+use Rattle.std.proofs.lemmas.Bool.{cases_lt}
+use Rattle.std.proofs.lemmas.List.{nil_from_length}
+use Rattle.pcm.specs.Frames.{cut}
 use Rattle.rates.specs.Counting.{ceil_div}
-use Rattle.playing.specs.Steps.{block_end}
+use Rattle.playing.specs.Playing.{blocks_of}
 
--- ---- how many
-module _ (n size : ℕ) (h : 0 < size) where
-  split : (k : ℕ) → (n + k) / size ≡ n / size + (n % size + k) / size
-  split k =
-      let e : n + k ≡ n / size * size + (n % size + k) = omega (arith, div-add-mod' n size) in
-      ap (λ (x : ℕ). x / size) e ∙ mul-add-div_right h (n / size) (n % size + k)
+module _ (size : ℕ) (h : 0 < size) where
+  pub blocks_none : blocks_of size [] ≡ []
+  blocks_none =
+      let e : ceil_div 0 size ≡ 0 = div-eq_of_lt (let l : 0 + (size - 1) < size = omega arith in l) in
+      ap (λ (n : ℕ). cut size n []) e
 
-  pub count_whole : n % size ≡ 0 → ceil_div n size ≡ n / size
-  count_whole e =
-      let l : n % size + (size - 1) < size = omega (arith, e) in
-      let z : n / size + 0 ≡ n / size = omega arith in
-      split (size - 1) ∙ ap (λ (x : ℕ). n / size + x) (div-eq_of_lt l) ∙ z
+  -- as the first comes off the front: it has `size` bytes, or is all that is left
+  module _ (left block after : List ℕ) (parts : left ≡ block ++ after) (long : length block ≡ min size (length left)) (some : 0 < length left) where
+    total : length left ≡ length block + length after
+    total = ap length parts ∙ length-append block after
 
-  pub count_short : (n % size ≡ 0 → ⊥) → ceil_div n size ≡ n / size + 1
-  count_short e =
-      let s : n % size + (size - 1) ≡ n % size - 1 + size = omega arith in
-      let l : n % size - 1 < size = omega (arith, mod-lt n h) in
-      split (size - 1) ∙ ap (λ (x : ℕ). n / size + x) (ap (λ (x : ℕ). x / size) s ∙ add-div_right (n % size - 1) h ∙ ap (λ (x : ℕ). x + 1) (div-eq_of_lt l))
+    count_next : ceil_div (length left) size ≡ suc (ceil_div (length after) size)
+    count_next = elim (cases_lt (length left) size) [
+      | inl short ↦
+          let e : length left + (size - 1) ≡ length left - 1 + size = omega arith in
+          let l : length left - 1 < size = omega arith in
+          let m : length after ≡ 0 = omega (arith, total, long) in
+          let z : length after + (size - 1) < size = omega arith in
+          ap (λ (n : ℕ). n / size) e ∙ add-div_right (length left - 1) h ∙ rw (div-eq_of_lt l, div-eq_of_lt z) refl
+      | inr whole ↦
+          let e : length left + (size - 1) ≡ length after + (size - 1) + size = omega (arith, total, long) in
+          ap (λ (n : ℕ). n / size) e ∙ add-div_right (length after + (size - 1)) h ∙ add-one _
+    ]
 
-  pub count_within : (n % size ≡ 0 → ⊥) → n / size + 1 ≤ n
-  count_within e = omega (arith, div-add-mod' n size, le-mul_of_pos_right (n / size) h)
+    front_off : (take size left ≡ block) × (drop size left ≡ after)
+    front_off = elim (cases_lt (length left) size) [
+      | inl short ↦
+          let none : after ≡ [] = nil_from_length after (omega (arith, total, long)) in
+          (take_all size left (omega arith) ∙ parts ∙ rw none (append-nil block), drop_of_length-le left (omega arith) ∙ sym none)
+      | inr whole ↦
+          let e : size ≡ length block = omega (arith, long) in
+          rw (e, parts) (take-append_seam block after, drop-append_seam block after)
+    ]
 
--- ---- the block that starts at `at`, and what is left after it
-module _ (size : ℕ) (sound : List ℕ) (at : ℕ) (h : at ≤ length sound) where
-  pub block_within : (at ≤ block_end at size (length sound)) × (block_end at size (length sound) ≤ length sound)
-  block_within = go (dec_lt size (length sound - at))
-    where
-      go : Dec (size < length sound - at) → (at ≤ block_end at size (length sound)) × (block_end at size (length sound) ≤ length sound)
-      go (yes l) = rw (lt-ltb size (length sound - at) l) (omega arith, omega arith)
-      go (no l) = let g : length sound - at ≤ size = omega arith in rw (le-ltb size (length sound - at) g) (omega arith, omega arith)
-
-  pub block_is : take (block_end at size (length sound) - at) (drop at sound) ≡ take size (drop at sound)
-  block_is = go (dec_lt size (length sound - at))
-    where
-      go : Dec (size < length sound - at) → take (block_end at size (length sound) - at) (drop at sound) ≡ take size (drop at sound)
-      go (yes l) = let e : at + size - at ≡ size = omega arith in rw (lt-ltb size (length sound - at) l, e)
-      go (no l) =
-          let g : length sound - at ≤ size = omega arith in
-          rw (le-ltb size (length sound - at) g)
-          (take_all (length sound - at) (drop at sound) (omega (arith, length-drop at sound)) ∙ sym (take_all size (drop at sound) (omega (arith, length-drop at sound))))
-
-  pub rest_is : drop size (drop at sound) ≡ drop (block_end at size (length sound)) sound
-  rest_is = drop-drop size at sound ∙ go (dec_lt size (length sound - at))
-    where
-      go : Dec (size < length sound - at) → drop (at + size) sound ≡ drop (block_end at size (length sound)) sound
-      go (yes l) = rw (lt-ltb size (length sound - at) l)
-      go (no l) =
-          let g : length sound - at ≤ size = omega arith in
-          let p : length sound ≤ at + size = omega arith in
-          let q : length sound ≤ length sound = omega arith in
-          rw (le-ltb size (length sound - at) g) (drop_of_length-le sound p ∙ sym (drop_of_length-le sound q))
+    pub blocks_next : blocks_of size left ≡ block ∷ blocks_of size after
+    blocks_next =
+        ap (λ (n : ℕ). cut size n left) count_next ∙ ap₂ (λ (x y : List ℕ). x ∷ cut size (ceil_div (length after) size) y) front_off.0 front_off.1

@@ -1,5 +1,5 @@
 -- The limits of a format that is allowed. Assumes nothing.
-use Rattle.std.specs.Prelude.{◌≡◌, true, ◌*◌, ◌≤◌, ◌<◌, leb, ltb}
+use Rattle.std.specs.Prelude.{◌≡◌, true, ◌*◌, ◌≤◌, ◌<◌, ℕ, leb, ltb}
 use Rattle.std.proofs.Common.{arith, mul-le-mul, ltb-true, leb-true}
 use Rattle.pcm.specs.declared.PcmFormat.{PcmFormat}
 use Rattle.pcm.specs.Formats.{format_allowed, channels_allowed, rate_allowed, frame_bytes}
@@ -21,3 +21,7 @@ format_limits f h =
     let m : f.rate ≤ 384000 = leb-true f.rate 384000 r.1 in
     let n : f.channels * 2 ≤ 4 = omega arith in
     record { some = ltb-true 0 f.channels c.0; few = k; rate = m; bytes = mul-le-mul m n }
+
+-- its frames have bytes
+pub frame_some : (f : PcmFormat) (n : ℕ) → n ≡ frame_bytes f → format_allowed f ≡ true → 0 < n
+frame_some f n e h = omega (arith, e, (format_limits f h).some)

@@ -1,5 +1,5 @@
 -- The figures of the walk fit, and the walk one stage at a time. Assumes nothing.
-use Rattle.std.specs.Prelude.{◌≡◌, Bool, cond, List, ◌∷◌, ℕ, ◌*◌, ◌/◌, ◌≤◌, ◌<◌, eqb, Ok}
+use Rattle.std.specs.Prelude.{◌≡◌, Bool, cond, List, [], ◌∷◌, ℕ, ◌*◌, ◌/◌, ◌≤◌, ◌<◌, eqb, Ok, Err}
 use Rattle.std.proofs.Math.Path.{refl}
 use Rattle.std.proofs.Math.Bool.{true, false}
 use Rattle.std.proofs.Math.Nat.{le_refl, le_trans}
@@ -7,7 +7,7 @@ use native.Mathlib.Omega.{arith}
 use borrow.Author.Tests.{leb-true}
 use Rattle.std.proofs.Math.Dec.{leb}
 use Rattle.pcm.specs.declared.PcmFormat.{PcmFormat}
-use Rattle.pcm.specs.declared.Error.TheVariants.{InvalidGeometry, TooLong}
+use Rattle.pcm.specs.declared.Error.TheVariants.{InvalidFormat, InvalidGeometry, TooLong}
 use Rattle.pcm.specs.Refusals.{ask}
 use Rattle.stage.specs.declared.Stage.{Stage}
 use Rattle.stage.specs.Stages.{format_after}
@@ -18,7 +18,7 @@ use Rattle.questions.specs.declared.Question.{Question}
 use Rattle.questions.specs.declared.Question.TheVariants.{Block, AnyState, Finish}
 use Rattle.questions.specs.declared.Due.{Due}
 use Rattle.questions.specs.declared.Walk.{Walk}
-use Rattle.questions.specs.Walk.{whole_frames, size_verdict, frames_if, block_frames, due_of, room_of, further, illegal, stepped, walked}
+use Rattle.questions.specs.Walk.{whole_frames, size_verdict, frames_if, block_frames, due_of, room_of, further, stepped, walk_on, walked, along}
 use Rattle.questions.specs.laws.Bounds.{wanted_most, wide}
 
 -- ---- numbers
@@ -60,18 +60,28 @@ module _ (q : Question) (w : Walk) (s : Stage) where
 
 -- ---- one step
 module _ (q : Question) (shorter : ℕ) (w : Walk) (s : Stage) where
-  pub step_suits : w.legal ≡ true → stage_suits w.format s.kind s.memory ≡ true → stepped q shorter w s ≡ further q shorter w s
+  pub step_ok : (v : Walk) → stepped q shorter w s ≡ Ok v → (stage_suits w.format s.kind s.memory ≡ true) × (v ≡ further q shorter w s)
   unfolding stepped
-  step_suits h k = rw (h, k)
+  step_ok v = go (stage_suits w.format s.kind s.memory)
+    where
+      go : (t : Bool) → cond t (Ok (further q shorter w s)) (Err InvalidFormat) ≡ Ok v → (t ≡ true) × (v ≡ further q shorter w s)
+      go true e = (refl, cc)
+      go false e = (cc, cc)
 
-  pub step_unsuited : w.legal ≡ true → stage_suits w.format s.kind s.memory ≡ false → stepped q shorter w s ≡ illegal w.format
-  unfolding stepped
-  step_unsuited h k = rw (h, k)
-
-  pub step_illegal : w.legal ≡ false → stepped q shorter w s ≡ illegal w.format
-  unfolding stepped
-  step_illegal h = rw h
-
-  pub walked_step : (l : List Stage) → walked q shorter w (s ∷ l) ≡ walked q shorter (stepped q shorter w s) l
+  -- what the rest of the walk finds
+  pub walked_step : (l : List Stage) → walked q shorter w (s ∷ l) ≡ walk_on (stepped q shorter w s) (λ v. walked q shorter v l)
   unfolding walked
   walked_step l = refl
+
+  pub along_step : (l : List Stage) → along q shorter w (s ∷ l) ≡ along q shorter (further q shorter w s) l
+  unfolding along
+  along_step l = refl
+
+module _ (q : Question) (shorter : ℕ) (w : Walk) where
+  pub walked_none : walked q shorter w [] ≡ Ok w
+  unfolding walked
+  walked_none = refl
+
+  pub along_none : along q shorter w [] ≡ w
+  unfolding along
+  along_none = refl

@@ -74,6 +74,10 @@ pub records_none : records [] ≡ []
 unfolding records_after
 records_none = refl
 
+pub records_end : (left : List ℕ) → length left ≡ 0 → records left ≡ []
+records_end [] h = records_none
+records_end (b ∷ left) h = absurd (let z : ⊥ = omega arith in z)
+
 pub records_next : (left : List ℕ) → 0 < length left → records left ≡ left ∷ records (after_next left)
 unfolding records_after
 records_next [] h = absurd (let z : ⊥ = omega arith in z)

@@ -11,8 +11,9 @@ use Rattle.recipe.specs.declared.Record.{Record}
 use Rattle.recipe.specs.declared.Record.TheVariants as rec
 use Rattle.words.specs.Words.{Words, word_at, word_bytes, words, words_bytes}
 use Rattle.words.specs.laws.Words.{word_back, words_back, words_below}
-use Rattle.recipe.specs.Records.{of_stage, of_note, field_count, kind_number, fields_of, record_bytes, record_of, length_at, kind_at, record_at, record_here}
-use Rattle.recipe.specs.laws.Records.{stage_within, WholeStage, record_size}
+use Rattle.recipe.specs.Kinds.{kind_number}
+use Rattle.recipe.specs.Records.{of_stage, of_note, field_count, record_kind, fields_of, record_bytes, record_of, length_at, kind_at, record_at, record_here}
+use Rattle.recipe.specs.laws.Records.{stage_within, WholeStage}
 use Rattle.recipe.specs.RoundTrip.{Fitting}
 
 -- ---- what is written reads back
@@ -25,7 +26,7 @@ fitting_words (rec.DcBlock corner) f = f
 fitting_words (rec.Biquad rate bits) f = f
 
 -- its kind is a stage's, and no note's
-pub kind_of_stage : (r : Record) → (of_stage (kind_number r) ≡ true) × (of_note (kind_number r) ≡ false)
+pub kind_of_stage : (r : Record) → (of_stage (kind_number (record_kind r)) ≡ true) × (of_note (kind_number (record_kind r)) ≡ false)
 kind_of_stage (rec.Gain q15) = (refl, refl)
 kind_of_stage rec.MonoToStereo = (refl, refl)
 kind_of_stage rec.StereoToMono = (refl, refl)
@@ -33,7 +34,7 @@ kind_of_stage (rec.Resample input output) = (refl, refl)
 kind_of_stage (rec.DcBlock corner) = (refl, refl)
 kind_of_stage (rec.Biquad rate bits) = (refl, refl)
 
-pub kind_small : (r : Record) → kind_number r < 65536
+pub kind_small : (r : Record) → kind_number (record_kind r) < 65536
 kind_small (rec.Gain q15) = omega arith
 kind_small rec.MonoToStereo = omega arith
 kind_small rec.StereoToMono = omega arith
@@ -41,7 +42,7 @@ kind_small (rec.Resample input output) = omega arith
 kind_small (rec.DcBlock corner) = omega arith
 kind_small (rec.Biquad rate bits) = omega arith
 
-pub kind_fields : (r : Record) → field_count (kind_number r) ≡ length (fields_of r)
+pub kind_fields : (r : Record) → field_count (kind_number (record_kind r)) ≡ length (fields_of r)
 kind_fields (rec.Gain q15) = refl
 kind_fields rec.MonoToStereo = refl
 kind_fields rec.StereoToMono = refl
@@ -49,7 +50,7 @@ kind_fields (rec.Resample input output) = refl
 kind_fields (rec.DcBlock corner) = refl
 kind_fields (rec.Biquad rate bits) = refl
 
-pub record_again : (r : Record) → Fitting r → record_of (kind_number r) (fields_of r) ≡ r
+pub record_again : (r : Record) → Fitting r → record_of (kind_number (record_kind r)) (fields_of r) ≡ r
 unfolding record_of
 record_again (rec.Gain q15) f = ap rec.Gain (to_z-of_z f)
 record_again rec.MonoToStereo f = refl
@@ -70,9 +71,9 @@ by_kind P p1 p2 p3 p4 p5 p6 (suc (suc (suc (suc (suc zero))))) h = p5
 by_kind P p1 p2 p3 p4 p5 p6 (suc (suc (suc (suc (suc (suc zero)))))) h = p6
 by_kind P p1 p2 p3 p4 p5 p6 (suc (suc (suc (suc (suc (suc (suc k))))))) h = absurd (let m = stage_within (suc (suc (suc (suc (suc (suc (suc k))))))) h in omega arith)
 
-kind_again : (k : ℕ) (fields : List ℕ) → of_stage k ≡ true → kind_number (record_of k fields) ≡ k
+kind_again : (k : ℕ) (fields : List ℕ) → of_stage k ≡ true → kind_number (record_kind (record_of k fields)) ≡ k
 unfolding record_of
-kind_again k fields h = by_kind (λ (k : ℕ). kind_number (record_of k fields) ≡ k) refl refl refl refl refl refl k h
+kind_again k fields h = by_kind (λ (k : ℕ). kind_number (record_kind (record_of k fields)) ≡ k) refl refl refl refl refl refl k h
 
 count_again : (k : ℕ) (l : List ℕ) → of_stage k ≡ true → length (fields_of (record_of k l)) ≡ field_count k
 unfolding record_of
@@ -88,10 +89,6 @@ fields_again k l h =
 module _ (left : List ℕ) (w : WholeStage left) where
   count_read : length (fields_of (record_at left)) ≡ field_count (kind_at left)
   count_read = count_again (kind_at left) (words (field_count (kind_at left)) (drop 4 left)) w.kind
-
-  -- a record has as many bytes as its length says
-  pub size_read : length (record_bytes (record_at left)) ≡ 2 + length_at left
-  size_read = omega (arith, record_size (record_at left), count_read, w.size)
 
   length_again : 2 + 4 * length (fields_of (record_at left)) ≡ length_at left
   length_again = ap (λ (m : ℕ). 2 + 4 * m) count_read ∙ sym w.size
@@ -117,7 +114,7 @@ module _ (left : List ℕ) (w : WholeStage left) (b : Bytes left) where
       ap (λ (x : List ℕ). take 2 left ++ (take 2 (drop 2 left) ++ take n x)) (sym (drop-drop 2 2 left))
       ∙ ap (λ (x : List ℕ). take 2 left ++ x) (sym (take-add 2 n (drop 2 left))) ∙ sym (take-add 2 (2 + n) left) ∙ ap (λ (m : ℕ). take m left) e
 
-  record_parts : (r : Record) → record_bytes r ≡ word_bytes 2 (2 + 4 * length (fields_of r)) ++ (word_bytes 2 (kind_number r) ++ words_bytes (fields_of r))
+  record_parts : (r : Record) → record_bytes r ≡ word_bytes 2 (2 + 4 * length (fields_of r)) ++ (word_bytes 2 (kind_number (record_kind r)) ++ words_bytes (fields_of r))
   unfolding record_bytes
   record_parts r = refl
 

@@ -1,7 +1,7 @@
 -- What the walk finds is what the calls then do: laws of `BlockKnown` and `FinishKnown`. Assumes nothing.
-use Rattle.std.specs.Prelude.{◌≡◌, refl, Bool, true, false, cond, ℕ, ◌-◌, ◌*◌, ◌/◌, ◌≤◌, ◌<◌, leb, Ok, Err}
+use Rattle.std.specs.Prelude.{◌≡◌, refl, Bool, true, false, ℕ, ◌-◌, ◌*◌, ◌/◌, ◌≤◌, ◌<◌, leb, Ok, Err}
 use Rattle.std.proofs.Math.Path.{sym, ap}
-use Rattle.std.proofs.Common.{◌∙◌}
+use Rattle.std.proofs.Common.{◌∙◌, arith}
 use mathlib.Core.List.{List, []}
 use borrow.Author.Tests.{lt-ltb, le-leb}
 use Rattle.std.proofs.Math.ListN.{length}
@@ -35,18 +35,10 @@ use Rattle.room.proofs.laws.Enough.{known_parts, start_suited, block_smallest, f
 
 -- ---- halves of at least so many bytes, or of just so many
 both_long : (m : ℕ) (a b : List ℕ) → m ≤ length a → m ≤ length b → m ≤ shorter a b
-both_long m a b h k = go (leb (length a) (length b))
-  where
-    go : (t : Bool) → m ≤ cond t (length a) (length b)
-    go true = h
-    go false = k
+both_long m a b h k = omega arith
 
 both_of : (m : ℕ) (a b : List ℕ) → length a ≡ m → length b ≡ m → shorter a b ≡ m
-both_of m a b h k = go (leb (length a) (length b))
-  where
-    go : (t : Bool) → cond t (length a) (length b) ≡ m
-    go true = h
-    go false = k
+both_of m a b h k = omega arith
 
 -- ---- what is known of a block
 module _ (c : Pipeline) (sound : Sounding c) (n frames half : ℕ) (known : block_room c n ≡ Ok (record { frames = frames; half = half })) where
@@ -71,7 +63,7 @@ module _ (c : Pipeline) (sound : Sounding c) (n frames half : ℕ) (known : bloc
     unfolding found
     exact =
         sym (frames_leaving 0 (begun c.format c.count (n * frame_bytes c) 0) (stages_of c) (frames_of c.format.channels bytes)
-        (begins c.format c.count (n * frame_bytes c) 0).legal (start_suited c lawful Block (n * frame_bytes c) 0) arriving)
+        (start_suited c lawful Block (n * frame_bytes c) 0) arriving)
         ∙ parts.1.0
 
     module _ (timestamp : ℕ) (a b : List ℕ) where
@@ -89,7 +81,7 @@ module _ (c : Pipeline) (sound : Sounding c) (n frames half : ℕ) (known : bloc
         let l : output_bytes c bytes ≡ frames * leaving_bytes c =
         length_bytes (format_leaving c.format (stages_of c)).channels (chain_out (stages_of c) (frames_of c.format.channels bytes)) (sound.leaving _ (frames_are_frames c.format.channels bytes good))
         ∙ ap (λ (m : ℕ). m * leaving_bytes c) (exact bytes long) in
-        (e, ap (λ (r : BlockResult). r.answer) e ∙ ap (λ (m : ℕ). output_answer (format_leaving c.format (stages_of c)) timestamp (last_half c.count) m (block_clipped c bytes)) l);
+        (e, ap (λ (r : BlockResult). r.answer) e ∙ ap (λ (m : ℕ). Ok (output_answer (format_leaving c.format (stages_of c)) timestamp (last_half c.count) m (block_clipped c bytes))) l);
     refused = λ timestamp bytes a b long some h k.
         by_verdict bytes long timestamp a b _ (ap (block_verdict c c.format (n * frame_bytes c)) (both_of (half - 1) a b h k) ∙ smallest.one_less some);
   }
@@ -110,7 +102,7 @@ module _ (c : Pipeline) (sound : Sounding c) (frames half : ℕ) (known : finish
   unfolding found
   exact_end =
       ap (λ (f : PcmFormat). length (chain_end f (stages_of c) [])) (sym (begins c.format c.count 0 0).format)
-      ∙ sym (frames_ending 0 (begun c.format c.count 0 0) (stages_of c) [] (begins c.format c.count 0 0).legal (start_suited c finish_lawful Finish 0 0) (start_frames c.format c.count 0))
+      ∙ sym (frames_ending 0 (begun c.format c.count 0 0) (stages_of c) [] (start_suited c finish_lawful Finish 0 0) (start_frames c.format c.count 0))
       ∙ finish_parts.1.0
 
   module _ (a b : List ℕ) where
@@ -127,7 +119,7 @@ module _ (c : Pipeline) (sound : Sounding c) (frames half : ℕ) (known : finish
         let e : finish_call c a b ≡ finished c (halves a b) = finish_by_verdict a b (Ok tt) (finish_least.enough (shorter a b) (both_long half a b h k)) in
         let l : finish_bytes c ≡ frames * leaving_bytes c =
         length_bytes (format_leaving c.format (stages_of c)).channels (chain_end c.format (stages_of c) []) sound.ending ∙ ap (λ (m : ℕ). m * leaving_bytes c) exact_end in
-        (e, ap (λ (r : FinishResult). r.answer) e ∙ ap (λ (m : ℕ). finish_answer (format_leaving c.format (stages_of c)) (last_half c.count) m (finish_clipped c)) l);
+        (e, ap (λ (r : FinishResult). r.answer) e ∙ ap (λ (m : ℕ). Ok (finish_answer (format_leaving c.format (stages_of c)) (last_half c.count) m (finish_clipped c))) l);
     refused = λ a b some h k. finish_by_verdict a b _ (ap (finish_verdict c) (both_of (half - 1) a b h k) ∙ finish_least.one_less some);
   }
 

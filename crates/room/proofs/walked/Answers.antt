@@ -1,10 +1,8 @@
-use borrow.Author.Rules.{rules}
-use Rattle.std.proofs.Common.{◌≡◌, length}
-use Rattle.pcm.specs.laws.Lists.{unmapped}
-use Rattle.block.specs.laws.Asking.{asks_begin}
+use Rattle.block.specs.laws.Heads.{own_channels, asks_from}
 use Rattle.room.proofs.walked.Goals as goal
 
-pub walked-requires : goal.walked-requires
-walked-requires c =
-    let eight : length c.args.chain.stages ≡ 8 = search (unmapped, rules) in
-    asks_begin _ _ _ _ _ _ _ _ c.requires eight c.begun-start.ensures
+pub begun-start-requires : goal.begun-start-requires
+begun-start-requires g c = own_channels _ _ c.requires
+
+pub walked-requires-clause-start : goal.walked-requires-clause-start
+walked-requires-clause-start g c = asks_from _ _ c.requires _ _ _ _ _ c.begun-start.ensures

@@ -1,22 +1,22 @@
 -- A block of n frames asked by its size in bytes, and what the walk answers: laws of `block_room` and `finish_room`. Assumes nothing.
-use Rattle.std.specs.Prelude.{◌≡◌, refl, Bool, true, false, cond, ◌&&◌, ℕ, zero, suc, ◌*◌, ◌≤◌, ◌<◌, leb, ltb, Ok, Err}
+use Rattle.std.specs.Prelude.{◌≡◌, refl, Bool, true, false, cond, ◌&&◌, ℕ, zero, suc, ◌*◌, ◌≤◌, ◌<◌, leb, ltb, Result, Ok, Err}
 use Rattle.std.proofs.Common.{sym, ◌∙◌, mul-div_cancel, arith, leb-true, leb-false, eq-eqb, lt-ltb}
-use Rattle.std.proofs.Math.Path.{ap, ap₂}
+use Rattle.std.proofs.Math.Path.{ap}
 use Rattle.std.proofs.Math.Nat.{mul-mod_left}
 use Rattle.pcm.specs.declared.PcmFormat.{PcmFormat}
+use Rattle.pcm.specs.declared.Error.{Error}
 use Rattle.pcm.specs.declared.Error.TheVariants.{InvalidFormat, InvalidGeometry, TooLong}
 use Rattle.pcm.specs.Refusals.{ask, Verdict}
-use Rattle.pcm.specs.laws.Refusals.{ask_yes}
 use Rattle.pipeline.specs.declared.Pipeline.{Pipeline}
 use Rattle.pipeline.specs.WritingBack.{stages_of}
 use Rattle.questions.specs.declared.Question.{Question}
 use Rattle.questions.specs.declared.Question.TheVariants.{Block}
 use Rattle.questions.specs.declared.Walk.{Walk}
-use Rattle.questions.specs.Walk.{head_legal, size_verdict, begun, sized_from}
+use Rattle.questions.specs.Walk.{head_legal, size_verdict, begun, walked, along}
 use Rattle.block.specs.BlockCall.{legal, suited}
-use Rattle.block.specs.laws.Walking.{begins, legal_is, walked_legal}
+use Rattle.block.specs.laws.Walking.{begins, legal_is, if_suited, walked_is}
 use Rattle.room.specs.Asked.{asked_frames, asked_bytes}
-use Rattle.room.specs.Room.{found, finish_found, frames_verdict, block_asked, room_answer, block_room, finish_room}
+use Rattle.room.specs.Room.{found, if_legal, finish_found, frames_verdict, room_answer, block_room, finish_room}
 
 -- ---- the size of n frames is asked as n is
 some_bytes : (n w : ℕ) → 0 < w → ltb 0 (n * w) ≡ ltb 0 n
@@ -55,39 +55,64 @@ asked_all n h = go (ltb 0 n) (leb n 8192) h
     go true false e = cc
     go false u e = cc
 
--- ---- the walk is legal where the chain is
-found_legal : (q : Question) (c : Pipeline) (size : ℕ) → head_legal c.format c.count ≡ true → (found q c size).legal ≡ legal c
+-- ---- the walk comes to its end where the chain is legal
+pub walked_found : (q : Question) (c : Pipeline) (size : ℕ) (start : Walk) (r : Result Walk Error) → head_legal c.format c.count ≡ true → start ≡ begun c.format c.count size 0
+    → r ≡ walked q 0 start (stages_of c) → r ≡ if_legal c (found q c size)
 unfolding found
-found_legal q c size head =
-    let b = begins c.format c.count size 0 in
-    walked_legal q 0 (begun c.format c.count size 0) (stages_of c) b.legal ∙ ap (λ (f : PcmFormat). suited f (stages_of c)) b.format ∙ sym (legal_is c size head)
+walked_found q c size start r head e k =
+    k ∙ ap (λ (w : Walk). walked q 0 w (stages_of c)) e ∙ walked_is q 0 (begun c.format c.count size 0) (stages_of c)
+    ∙ ap (λ (t : Bool). if_suited t (along q 0 (begun c.format c.count size 0) (stages_of c)))
+    (ap (λ (f : PcmFormat). suited f (stages_of c)) (begins c.format c.count size 0).format ∙ sym (legal_is c size head))
+
+found_ok : (c : Pipeline) (w v : Walk) → if_legal c w ≡ Ok v → (legal c ≡ true) × (v ≡ w)
+found_ok c w v = go (legal c)
+  where
+    go : (t : Bool) → if_suited t w ≡ Ok v → (t ≡ true) × (v ≡ w)
+    go true e = (refl, cc)
+    go false e = (cc, cc)
+
+found_err : (c : Pipeline) (w : Walk) (x : Error) → if_legal c w ≡ Err x → (legal c ≡ false) × (x ≡ InvalidFormat)
+found_err c w x = go (legal c)
+  where
+    go : (t : Bool) → if_suited t w ≡ Err x → (t ≡ false) × (x ≡ InvalidFormat)
+    go true e = (cc, cc)
+    go false e = (refl, cc)
 
 -- ---- what it answers
 same_answer : (v : Verdict) (w x : Walk) → (v ≡ Ok tt → w ≡ x) → room_answer v w ≡ room_answer v x
 same_answer (Ok _) w x h = ap (room_answer (Ok tt)) (h refl)
 same_answer (Err e) w x h = refl
 
-module _ (c : Pipeline) (head : head_legal c.format c.count ≡ true) where
-  module _ (n : ℕ) (channels : 0 < c.format.channels) where
-    abbrev size : ℕ
-    size = asked_bytes c.format n
+module _ (c : Pipeline) (n size : ℕ) (z : size ≡ asked_bytes c.format n) (r : Result Walk Error) (e : r ≡ if_legal c (found Block c size)) where
+  by_size : (w : Walk) (v : Verdict) → 0 < c.format.channels → r ≡ Ok w → v ≡ size_verdict c.format size → room_answer v w ≡ block_room c n
+  unfolding block_room
+  by_size w v channels k s =
+      let p = found_ok c _ w (sym e ∙ k) in
+      let m : v ≡ frames_verdict n = s ∙ ap (size_verdict c.format) z ∙ size_frames c.format (asked_frames n) channels ∙ asked_verdict n in
+      ap (λ (x : Verdict). room_answer x w) m
+      ∙ same_answer (frames_verdict n) w (found Block c (n * (c.format.channels * 2)))
+      (λ h. p.1 ∙ ap (found Block c) (z ∙ ap (λ (k : ℕ). k * (c.format.channels * 2)) (asked_all n h)))
+      ∙ ap (λ (t : Bool). room_answer (ask t InvalidFormat (frames_verdict n)) (found Block c (n * (c.format.channels * 2)))) (sym p.0)
 
-    sized_is : sized_from c.format size (found Block c size) ≡ block_asked c n
-    unfolding sized_from
-    sized_is =
-        ap₂ (λ (t : Bool) (v : Verdict). ask t InvalidFormat v) (found_legal Block c size head)
-        (size_frames c.format (asked_frames n) channels ∙ asked_verdict n)
+  pub block_room_is : (w : Walk) (v : Verdict) → 0 < c.format.channels → r ≡ Ok w → v ≡ size_verdict c.format size → v ≡ Ok tt
+      → Ok (record { frames = w.frames; half = w.largest }) ≡ block_room c n
+  block_room_is w v channels k s y = ap (λ (x : Verdict). room_answer x w) (sym y) ∙ by_size w v channels k s
 
-    pub block_room_is : room_answer (sized_from c.format (asked_bytes c.format n) (found Block c (asked_bytes c.format n))) (found Block c (asked_bytes c.format n)) ≡ block_room c n
-    unfolding block_room
-    block_room_is =
-        ap (λ (v : Verdict). room_answer v (found Block c size)) sized_is
-        ∙ same_answer (block_asked c n) (found Block c size) (found Block c (n * (c.format.channels * 2)))
-        (λ h. ap (λ (k : ℕ). found Block c (k * (c.format.channels * 2))) (asked_all n (ask_yes (legal c) InvalidFormat (frames_verdict n) h).1))
+  pub block_room_sized : (w : Walk) (v : Verdict) (x : Error) → 0 < c.format.channels → r ≡ Ok w → v ≡ size_verdict c.format size → v ≡ Err x → Err x ≡ block_room c n
+  block_room_sized w v x channels k s y = ap (λ (x : Verdict). room_answer x w) (sym y) ∙ by_size w v channels k s
 
-  pub finish_room_is : room_answer (ask (finish_found c).legal InvalidFormat (Ok tt)) (finish_found c) ≡ finish_room c
+  pub block_room_unsuited : (x : Error) → r ≡ Err x → Err x ≡ block_room c n
+  unfolding block_room
+  block_room_unsuited x k = let p = found_err c _ x (sym e ∙ k) in rw (p.0, p.1) refl
+
+module _ (c : Pipeline) (r : Result Walk Error) (e : r ≡ if_legal c (finish_found c)) where
+  pub finish_room_is : (w : Walk) → r ≡ Ok w → Ok (record { frames = w.frames; half = w.largest }) ≡ finish_room c
   unfolding finish_room
-  finish_room_is = ap (λ (t : Bool). room_answer (ask t InvalidFormat (Ok tt)) (finish_found c)) (found_legal _ c 0 head)
+  finish_room_is w k = let p = found_ok c _ w (sym e ∙ k) in rw (p.0, p.1) refl
+
+  pub finish_room_unsuited : (x : Error) → r ≡ Err x → Err x ≡ finish_room c
+  unfolding finish_room
+  finish_room_unsuited x k = let p = found_err c _ x (sym e ∙ k) in rw (p.0, p.1) refl
 
 -- a chain that no call returned
 module _ (c : Pipeline) (h : legal c ≡ false) where

@@ -1,5 +1,5 @@
 -- A stage's turn, kind by kind: what its block function asks, and that its promise serves the turn. Assumes nothing.
-use Rattle.std.specs.Prelude.{◌≡◌, refl, true, List, map, ℕ, ◌*◌, ◌/◌, ◌%◌, ◌≤◌, ℤ, nat_abs}
+use Rattle.std.specs.Prelude.{◌≡◌, refl, true, List, map, ℕ, ◌*◌, ◌/◌, ◌%◌, ◌≤◌, ℤ}
 use Rattle.std.proofs.Common.{sym, ap₂, ◌∙◌, subst, div-add-mod', arith}
 use Rattle.std.proofs.Math.Path.{ap}
 use borrow.Author.Tests.{leb-true, eqb-true}
@@ -14,7 +14,7 @@ use Rattle.pcm.specs.laws.Frames.{length_frames, length_bytes}
 use Rattle.filters.specs.Filters.{FilterBlock, FilteredBlock, filtered, taps_of, memory_next}
 use Rattle.filters.specs.laws.Filters.{length_filtered_bytes}
 use Rattle.gain.specs.declared.Gain.{Gain}
-use Rattle.gain.specs.Gain.{scaled_bytes}
+use Rattle.gain.specs.Gain.{GainBlock, scaled_bytes}
 use Rattle.gain.specs.Clipping.{clipped_in}
 use Rattle.gain.specs.laws.Clipping.{clipped_frames}
 use Rattle.gain.specs.laws.Gain.{scaled_frames, length_scaled}
@@ -85,9 +85,9 @@ module _ (f : PcmFormat) (st : Stage) (src dst : List ℕ) (w : Served f st src 
   }
 
   -- ---- gain
-  pub gain_asks : (g : Gain) → st.kind ≡ kind.Gain g → (length src % 2 ≡ 0) × (length src ≤ length dst) × (nat_abs g.q15 ≤ 33554432)
+  pub gain_asks : (g : Gain) → st.kind ≡ kind.Gain g → GainBlock g.q15 src dst
   unfolding stage_suits frames_out
-  gain_asks g e = (even, omega (arith, room_of_lem (kind.Gain g) e, whole_is), leb-true _ _ (suit_of (kind.Gain g) e))
+  gain_asks g e = record { whole = even; room = omega (arith, room_of_lem (kind.Gain g) e, whole_is); factor = leb-true _ _ (suit_of (kind.Gain g) e) }
 
   pub gain_serves : (g : Gain) (dst' : List ℕ) → st.kind ≡ kind.Gain g → dst' ≡ written (scaled_bytes g.q15 src) dst → Serves f st st xs (length src) dst dst'
   gain_serves g dst' e h =
@@ -139,7 +139,7 @@ module _ (f : PcmFormat) (st : Stage) (src dst : List ℕ) (w : Served f st src 
 
   -- ---- the filters
   filter_asks : length src ≤ length dst → FilterBlock f.channels src dst
-  filter_asks h = record { at_least_one = w.channels.0; at_most_two = w.channels.1; whole = w.whole; room = h }
+  filter_asks h = record { channels = w.channels; whole = w.whole; room = h }
 
   pub dc_asks : (b : DcBlock) → st.kind ≡ kind.DcBlock b → FilterBlock f.channels src dst
   unfolding frames_out

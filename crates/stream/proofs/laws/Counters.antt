@@ -66,8 +66,8 @@ nothing_call : (r : Run) (call : Call) (n : ℕ) → r.chain.empty_blocks ≡ he
 unfolding block_call accepted
 nothing_call r (block format t bytes a b) n e = go (block_verdict r.chain format (length bytes) (shorter a b))
   where
-    by_length : (z : Bool) (m : ℕ) (x : Answer) → one_if_nothing x ≡ 0
-        → cond z (counted_up r.chain.empty_blocks) r.chain.empty_blocks ≡ held_count (n + one_if_nothing (cond z (answer.NothingYet m) x))
+    by_length : (z : Bool) (m : ℕ) (x : Answer ℕ) → one_if_nothing (Ok x) ≡ 0
+        → cond z (counted_up r.chain.empty_blocks) r.chain.empty_blocks ≡ held_count (n + one_if_nothing (Ok (cond z (answer.NothingYet m) x)))
     by_length true m x h = ap counted_up e ∙ one_more n
     by_length false m x h = rw (h, add-zero) e
 

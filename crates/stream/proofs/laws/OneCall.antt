@@ -1,5 +1,5 @@
 -- Laws of the definitions in OneCall. Assumes nothing.
-use Rattle.std.specs.Prelude.{◌≡◌, Bool, cond, List, [], ◌∷◌, ◌++◌, map, ℕ, suc, ◌+◌, ◌%◌, ◌≤◌, eqb, take, drop}
+use Rattle.std.specs.Prelude.{◌≡◌, Bool, cond, List, [], ◌∷◌, ◌++◌, map, ℕ, suc, ◌+◌, ◌%◌, ◌≤◌, eqb, take, drop, Ok}
 use Rattle.std.proofs.Math.Path.{refl, sym}
 use Rattle.std.proofs.Common.{ap, ◌∙◌, suc-ne-zero, zero-add, add-zero, arith, ne_eqb, le-leb, length-append, length-drop, length-take, length-take-le, take_at, drop_at}
 use Rattle.std.proofs.Math.Bool.{true, false}
@@ -12,25 +12,21 @@ use Rattle.pcm.specs.laws.Frames.{front_written, bytes_frames}
 use Rattle.stage.specs.declared.Stage.{Stage}
 use Rattle.stage.specs.Stages.{stage_out, stage_clear, format_after}
 use Rattle.pipeline.specs.declared.Pipeline.{Pipeline}
-use Rattle.pipeline.specs.Reset.{reset_call, format_leaving}
+use Rattle.pipeline.specs.Reset.{reset_call}
 use Rattle.answers.specs.declared.Half.{Half}
 use Rattle.answers.specs.declared.Half.TheVariants as half
-use Rattle.answers.specs.declared.Answer.{Answer}
 use Rattle.answers.specs.declared.Answer.TheVariants as answer
 use Rattle.block.specs.Chain.{chain_out, chain_next, chain_clipped}
 use Rattle.block.specs.laws.Chain.{length_chain_next}
 use Rattle.turns.specs.Turns.{Halves}
-use Rattle.block.specs.BlockCall.{BlockResult, put, passed, halves_after, output_bytes, block_clipped, accepted}
+use Rattle.block.specs.BlockCall.{put, passed, halves_after, output_bytes, accepted}
 use Rattle.answers.specs.Answers.{last_half, output_answer, front_of, output_of}
 use Rattle.pipeline.specs.WritingBack.{stages_of}
 use Rattle.block.specs.laws.Bounds.{legal_parts}
 use Rattle.block.specs.Turns.{Accepts}
-use Rattle.answers.specs.declared.FinishAnswer.{FinishAnswer}
-use Rattle.answers.specs.declared.FinishAnswer.TheVariants as finish
-use Rattle.answers.specs.FinishAnswers.{finish_answer}
 use Rattle.ending.specs.StageEnd.{stage_end}
-use Rattle.finish.specs.FinishCall.{chain_end, end_clipped, ended_halves, FinishResult, finish_bytes, finish_clipped, finished}
-use Rattle.stream.specs.Calls.{output_by, call_output, finish_output_by, finish_output, clipped_by, finish_clipped_by}
+use Rattle.finish.specs.FinishCall.{chain_end, end_clipped, ended_halves, finish_bytes, finished}
+use Rattle.stream.specs.Calls.{output_by, call_output, finish_output, clipped_by}
 use Rattle.stream.specs.OneCall.{side_of, side, Moved}
 
 put_side : (i n : ℕ) (out : List ℕ) (h : Halves) → n ≡ length out → take n (side i (put i out h)) ≡ out
@@ -89,21 +85,18 @@ handed_back : (bytes : List ℕ) (side : Half) (a b : List ℕ) → take (length
 handed_back bytes half.A a b h = front_is bytes a h
 handed_back bytes half.B a b h = front_is bytes b h
 
-output_is : (bytes : List ℕ) (f : PcmFormat) (t : ℕ) (side : Half) (clipped : ℕ) (r : BlockResult) → r.answer ≡ output_answer f t side (length bytes) clipped → take (length bytes) (side_of side r.a r.b) ≡ bytes
-    → call_output r ≡ bytes
-output_is [] f t side clipped r e h = ap (λ (x : Answer). output_by x r) e
-output_is (x ∷ bytes) f t side clipped r e h =
-    ap (λ (x : Answer). output_by x r)
-    (e ∙ ap (λ (b : Bool). cond b (answer.NothingYet clipped) (answer.Output f t side (length (x ∷ bytes)) clipped)) (ne_eqb (length (x ∷ bytes)) 0 (suc-ne-zero (length bytes))))
-    ∙ handed_back (x ∷ bytes) side r.a r.b h
+-- of a block and of a finish
+output_is : {T : Type 0} (bytes : List ℕ) (f : PcmFormat) (t : T) (side : Half) (clipped : ℕ) (a b : List ℕ) → take (length bytes) (side_of side a b) ≡ bytes
+    → output_by (Ok (output_answer f t side (length bytes) clipped)) a b ≡ bytes
+output_is [] f t half clipped a b h = refl
+output_is (x ∷ bytes) f t half clipped a b h = rw (ne_eqb (length (x ∷ bytes)) 0 (suc-ne-zero (length bytes))) (handed_back (x ∷ bytes) half a b h)
 
-end_output_is : (bytes : List ℕ) (f : PcmFormat) (side : Half) (clipped : ℕ) (r : FinishResult) → r.answer ≡ finish_answer f side (length bytes) clipped → take (length bytes) (side_of side r.a r.b) ≡ bytes
-    → finish_output r ≡ bytes
-end_output_is [] f side clipped r e h = ap (λ (x : FinishAnswer). finish_output_by x r) e
-end_output_is (x ∷ bytes) f side clipped r e h =
-    ap (λ (x : FinishAnswer). finish_output_by x r)
-    (e ∙ ap (λ (b : Bool). cond b (finish.NothingYet clipped) (finish.Output f side (length (x ∷ bytes)) clipped)) (ne_eqb (length (x ∷ bytes)) 0 (suc-ne-zero (length bytes))))
-    ∙ handed_back (x ∷ bytes) side r.a r.b h
+clipped_is : {T : Type 0} (f : PcmFormat) (t : T) (side : Half) (len clipped : ℕ) → clipped_by (Ok (output_answer f t side len clipped)) ≡ clipped
+clipped_is {T} f t half len clipped = go (eqb len 0)
+  where
+    go : (none : Bool) → clipped_by (Ok (cond none (answer.NothingYet clipped) (answer.Output f t half len clipped))) ≡ clipped
+    go true = refl
+    go false = refl
 
 -- ---- the first `count` of eight places, each changed, and the spare ones as they were
 module _ (c : Pipeline) (few : c.count ≤ 8) (eight : length c.stages ≡ 8) (kept : List Stage) (long : length kept ≡ length (stages_of c)) where
@@ -143,18 +136,13 @@ module _ (c : Pipeline) (eight : length c.stages ≡ 8) where
     pub accepted_output : Bytes block → call_output (accepted c t block (record { a = a; b = b })) ≡ bytes_of (chain_out (stages_of c) xs)
     unfolding accepted
     accepted_output bytes =
-        let r : BlockResult = accepted c t block (record { a = a; b = b }) in
         let n : c.count ≡ length (stages_of c) = sym (length-take-le c.count c.stages (omega (arith, few))) in
-        output_is (bytes_of (chain_out (stages_of c) xs)) (format_leaving c.format (stages_of c)) t (last_half c.count) _ r refl
+        output_is (bytes_of (chain_out (stages_of c) xs)) _ _ (last_half c.count) _ _ _
         (half_holds (stages_of c) c.count xs block (record { a = a; b = b }) n (bytes_frames c.format.channels block w.whole bytes))
 
     pub accepted_clipped : clipped_by (accepted c t block (record { a = a; b = b })).answer ≡ chain_clipped (stages_of c) xs
     unfolding accepted
-    accepted_clipped = go (eqb (output_bytes c block) 0)
-      where
-        go : (none : Bool) → clipped_by (cond none (answer.NothingYet (block_clipped c block)) (answer.Output (format_leaving c.format (stages_of c)) t (last_half c.count) (output_bytes c block) (block_clipped c block))) ≡ block_clipped c block
-        go true = refl
-        go false = refl
+    accepted_clipped = clipped_is _ _ _ (output_bytes c block) _
 
   -- reset
   pub reset_moves : c.count ≤ 8 → Moved c (reset_call c) (map stage_clear (stages_of c))
@@ -174,16 +162,12 @@ module _ (c : Pipeline) (eight : length c.stages ≡ 8) where
   unfolding finished
   finished_output few a b =
       let n : c.count ≡ length (stages_of c) = sym (length-take-le c.count c.stages (omega (arith, few))) in
-      end_output_is (bytes_of (chain_end c.format (stages_of c) [])) (format_leaving c.format (stages_of c)) (last_half c.count) _ (finished c (record { a = a; b = b })) refl
+      output_is (bytes_of (chain_end c.format (stages_of c) [])) _ _ (last_half c.count) _ _ _
       (end_half_holds c.format (stages_of c) c.count (record { a = a; b = b }) n)
 
-  pub finished_clipped : (a b : List ℕ) → finish_clipped_by (finished c (record { a = a; b = b })).answer ≡ end_clipped c.format (stages_of c) []
+  pub finished_clipped : (a b : List ℕ) → clipped_by (finished c (record { a = a; b = b })).answer ≡ end_clipped c.format (stages_of c) []
   unfolding finished
-  finished_clipped a b = go (eqb (finish_bytes c) 0)
-    where
-      go : (none : Bool) → finish_clipped_by (cond none (finish.NothingYet (finish_clipped c)) (finish.Output (format_leaving c.format (stages_of c)) (last_half c.count) (finish_bytes c) (finish_clipped c))) ≡ finish_clipped c
-      go true = refl
-      go false = refl
+  finished_clipped a b = clipped_is _ _ _ (finish_bytes c) _
 
   pub finished_moves : c.count ≤ 8 → (a b : List ℕ) → Moved c (finished c (record { a = a; b = b })).chain (map stage_clear (stages_of c))
   unfolding finished

@@ -1,24 +1,22 @@
 -- Laws of the definitions in OnWords. Assumes nothing.
-use Rattle.std.specs.Prelude.{◌≡◌, refl, List, ◌++◌, ℕ, ◌+◌}
+use Rattle.std.specs.Prelude.{◌≡◌, refl, List, ◌++◌, ℕ, ◌+◌, Ok, Err, Result}
 use Rattle.std.proofs.Common.{sym, ap, ap₂, ◌∙◌}
+use Rattle.pcm.specs.declared.Error.{Error}
 use Rattle.pipeline.specs.declared.Pipeline.{Pipeline}
 use Rattle.answers.specs.declared.Half.{Half}
 use Rattle.answers.specs.declared.Half.TheVariants as half
 use Rattle.answers.specs.declared.Answer.{Answer}
 use Rattle.answers.specs.declared.Answer.TheVariants as answer
-use Rattle.answers.specs.declared.FinishAnswer.{FinishAnswer}
-use Rattle.answers.specs.declared.FinishAnswer.TheVariants as finished
 use Rattle.answers.specs.Answers.{half_number, output_of, answer_told}
 use Rattle.answers.specs.FinishAnswers.{finish_told}
 use Rattle.block.specs.BlockCall.{BlockResult, block_call}
 use Rattle.finish.specs.FinishCall.{FinishResult, finish_call}
-use Rattle.stream.specs.Calls.{Call, block, reset, finish, call_output, finish_output, clipped_by, finish_clipped_by, Run, fresh, joined_by, finished_by}
+use Rattle.stream.specs.Calls.{Call, block, reset, finish, output_by, clipped_by, Run, fresh, joined_by, finished_by}
 use Rattle.stream.specs.Stream.{Stream, fed, after_feeding, within, after_calls}
 use Rattle.chain_words.specs.Layout.{chain_of_words}
 use Rattle.answers.specs.declared.Told.{Told}
 use Rattle.answers.specs.declared.FinishTold.{FinishTold}
-use Rattle.word_finish.specs.Words.{FinishOutcome, finish_outcome}
-use Rattle.muzgleur.specs.Results.{BlockOutcome, block_outcome}
+use Rattle.muzgleur.specs.Results.{BlockOutcome, block_outcome, FinishOutcome, finish_outcome}
 use Rattle.word_stream.specs.OnWords.{taken, WordRun, run_on_words, OnWords, none, played, ended, cleared}
 
 -- a program takes what the call's answer names
@@ -26,32 +24,26 @@ taken_half : (side : Half) (len : ℕ) (a b : List ℕ) → taken 1 (half_number
 taken_half half.A len a b = refl
 taken_half half.B len a b = refl
 
-taken_is : (r : BlockResult) → taken (answer_told r.answer).outcome (answer_told r.answer).half (answer_told r.answer).len r.a r.b ≡ call_output r
-taken_is r = go r.answer
-  where
-    go : (x : Answer) → taken (answer_told x).outcome (answer_told x).half (answer_told x).len r.a r.b ≡ call_output (record { chain = r.chain; answer = x; a = r.a; b = r.b })
-    go (answer.Output f timestamp side len clipped) = taken_half side len r.a r.b
-    go (answer.NothingYet clipped) = refl
-    go (answer.Refused e) = refl
+taken_is : (x : Result (Answer ℕ) Error) (a b : List ℕ) → taken (answer_told x).outcome (answer_told x).half (answer_told x).len a b ≡ output_by x a b
+taken_is (Ok (answer.Output f timestamp side len clipped)) a b = taken_half side len a b
+taken_is (Ok (answer.NothingYet clipped)) a b = refl
+taken_is (Err e) a b = refl
 
-taken_at_end : (r : FinishResult) → taken (finish_told r.answer).outcome (finish_told r.answer).half (finish_told r.answer).len r.a r.b ≡ finish_output r
-taken_at_end r = go r.answer
-  where
-    go : (x : FinishAnswer) → taken (finish_told x).outcome (finish_told x).half (finish_told x).len r.a r.b ≡ finish_output (record { chain = r.chain; answer = x; a = r.a; b = r.b })
-    go (finished.Output f side len clipped) = taken_half side len r.a r.b
-    go (finished.NothingYet clipped) = refl
-    go (finished.Refused e) = refl
+taken_at_end : (x : Result (Answer Unit) Error) (a b : List ℕ) → taken (finish_told x).outcome (finish_told x).half (finish_told x).len a b ≡ output_by x a b
+taken_at_end (Ok (answer.Output f _ side len clipped)) a b = taken_half side len a b
+taken_at_end (Ok (answer.NothingYet clipped)) a b = refl
+taken_at_end (Err e) a b = refl
 
 -- and its count is the answer's
-told_clipped : (x : Answer) → (answer_told x).clipped ≡ clipped_by x
-told_clipped (answer.Output f timestamp side len clipped) = refl
-told_clipped (answer.NothingYet clipped) = refl
-told_clipped (answer.Refused e) = refl
+told_clipped : (x : Result (Answer ℕ) Error) → (answer_told x).clipped ≡ clipped_by x
+told_clipped (Ok (answer.Output f timestamp side len clipped)) = refl
+told_clipped (Ok (answer.NothingYet clipped)) = refl
+told_clipped (Err e) = refl
 
-told_clipped_at_end : (x : FinishAnswer) → (finish_told x).clipped ≡ finish_clipped_by x
-told_clipped_at_end (finished.Output f side len clipped) = refl
-told_clipped_at_end (finished.NothingYet clipped) = refl
-told_clipped_at_end (finished.Refused e) = refl
+told_clipped_at_end : (x : Result (Answer Unit) Error) → (finish_told x).clipped ≡ clipped_by x
+told_clipped_at_end (Ok (answer.Output f _ side len clipped)) = refl
+told_clipped_at_end (Ok (answer.NothingYet clipped)) = refl
+told_clipped_at_end (Err e) = refl
 
 -- the chains that the words stand for, the outputs and the counts are those of the same calls on the chain
 pub words_as_run : {o : Pipeline} {S : Stream} {r r' : WordRun} {calls : List Call} → OnWords o S r calls r' → after_calls o S (run_on_words r) calls ≡ run_on_words r'
@@ -63,7 +55,7 @@ words_as_run {o} {S} {r} (played {calls = calls} format timestamp bytes a b resu
         → record { chain = c; joined = run.joined ++ taken result.outcome result.half result.len a b; clipped = run.clipped + result.clipped } ≡ joined_by run x
     same_run run x result c a b e =
         ap (λ (y : BlockOutcome). let z : Run = record { chain = y.chain; joined = run.joined ++ taken y.result.outcome y.result.half y.result.len y.a y.b; clipped = run.clipped + y.result.clipped } in z) e
-        ∙ ap₂ (λ (l : List ℕ) (n : ℕ). let z : Run = record { chain = x.chain; joined = run.joined ++ l; clipped = run.clipped + n } in z) (taken_is x) (told_clipped x.answer)
+        ∙ ap₂ (λ (l : List ℕ) (n : ℕ). let z : Run = record { chain = x.chain; joined = run.joined ++ l; clipped = run.clipped + n } in z) (taken_is x.answer x.a x.b) (told_clipped x.answer)
 words_as_run {o} {S} {r} (ended {calls = calls} a b result w a₁ b₁ e more) =
     ap (λ (x : Run). after_calls o (after_feeding o (fed S) (finish a b)) x calls) (sym (same_run (within S (run_on_words r)) (finish_call (chain_of_words r.words) a b) result (chain_of_words w) a₁ b₁ e)) ∙ words_as_run more
   where
@@ -71,6 +63,6 @@ words_as_run {o} {S} {r} (ended {calls = calls} a b result w a₁ b₁ e more) =
         → record { chain = c; joined = run.joined ++ taken result.outcome result.half result.len a b; clipped = run.clipped + result.clipped } ≡ finished_by run x
     same_run run x result c a b e =
         ap (λ (y : FinishOutcome). let z : Run = record { chain = y.chain; joined = run.joined ++ taken y.result.outcome y.result.half y.result.len y.a y.b; clipped = run.clipped + y.result.clipped } in z) e
-        ∙ ap₂ (λ (l : List ℕ) (n : ℕ). let z : Run = record { chain = x.chain; joined = run.joined ++ l; clipped = run.clipped + n } in z) (taken_at_end x) (told_clipped_at_end x.answer)
+        ∙ ap₂ (λ (l : List ℕ) (n : ℕ). let z : Run = record { chain = x.chain; joined = run.joined ++ l; clipped = run.clipped + n } in z) (taken_at_end x.answer x.a x.b) (told_clipped_at_end x.answer)
 words_as_run {o} {S} (cleared {calls = calls} done e h more) =
     ap (λ (c : Pipeline). after_calls o (after_feeding o (fed S) reset) (fresh c) calls) (sym h) ∙ words_as_run more

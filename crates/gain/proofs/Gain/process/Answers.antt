@@ -13,6 +13,6 @@ returns-then-eq c =
     let input = c.args.input.now in
     let bytes : Bytes input = all_by_index (λ b. b < 256) 0 input (λ i h. (c.type_inv.input i).fits) in
     let unity : c.args.self.q15 ≡ pos 32768 = search rules in (
-      c.copy_front.ensures ∙ sym (ap (λ l. written l c.args.out.now) (ap (λ z. scaled_bytes z input) unity ∙ unity_bytes input c.requires.0 bytes)),
+      c.copy_front.ensures ∙ sym (ap (λ l. written l c.args.out.now) (ap (λ z. scaled_bytes z input) unity ∙ unity_bytes input c.requires.whole bytes)),
       sym (ap (λ z. clipped_in z (decode input)) unity ∙ unity_clips_nothing (decode input) (decode_fits input bytes)),
     )

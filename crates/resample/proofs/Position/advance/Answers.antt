@@ -9,6 +9,6 @@ returns c =
     let p = c.args.self in
     let s = c.args.step in
     elim c.if-over-out_r.branch [
-      | then-over-out_r w ↦ rw (w.frac-is, w.over-is) (sum_is c.args.out_r p s (p.frac + s.frac + 1) (p.over + s.over - c.args.out_r) (omega arith) (omega arith))
-      | else-over-out_r w ↦ rw (w.frac-is, w.over-is) (sum_is c.args.out_r p s (p.frac + s.frac) (p.over + s.over) (omega arith) (omega arith))
+      | then-over-out_r w ↦ rw (w.frac-is, w.over-is) (sum_is c.args.out_r p s (p.frac + s.frac + 1) (p.over + s.over - c.args.out_r) (omega arith) (omega arith) c.requires.0.limit)
+      | else-over-out_r w ↦ rw (w.frac-is, w.over-is) (sum_is c.args.out_r p s (p.frac + s.frac) (p.over + s.over) (omega arith) (omega arith) c.requires.0.limit)
     ]

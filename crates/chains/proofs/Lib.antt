@@ -1,0 +1,3 @@
+mod Cleared
+mod Stages
+mod Words

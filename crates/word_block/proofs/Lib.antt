@@ -1,3 +1,0 @@
-mod Moved
-mod Placing
-mod Verdicts

@@ -1,2 +1,0 @@
-mod Finishing
-mod Stands
