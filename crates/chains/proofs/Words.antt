@@ -26,14 +26,6 @@ use Rattle.chains.proofs.Cleared.{count_of_words, no_chain_reset}
 use Rattle.chains.specs.laws.Words.{put_stays, chain_put, counted_stays, chain_counted, stays_stand}
 
 -- ---- its parts
-pub eight_at : (w : List ℕ) → length (chain_of_words w).stages ≡ 8
-unfolding chain_of_words chain_at
-eight_at w = go (stands w)
-  where
-    go : (b : Bool) → length (cond b (chain_at w) no_chain).stages ≡ 8
-    go true = refl
-    go false = refl
-
 count_at : (w : List ℕ) → (chain_at w).count ≡ word w 0
 unfolding chain_at
 count_at w = refl

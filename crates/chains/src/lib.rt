@@ -133,7 +133,7 @@ impl Chain for Words {
 
     ghost stays_on = { stay_on };
 
-    #[tactic(auto, using(crate::proofs::Words::eight_at, crate::proofs::Words::head_at))]
+    #[tactic(auto, using(crate::specs::laws::Words::eight_at, crate::proofs::Words::head_at))]
     fn head(&self) -> Result<Head, Error> {
         let count = chain_words::count_of(self);
         let format = chain_words::format_of(self);

@@ -10,8 +10,9 @@ use Rattle.pipeline.specs.declared.Pipeline.{Pipeline}
 use Rattle.pipeline.specs.Reset.{reset_call}
 use Rattle.pipeline.specs.WritingBack.{stages_of}
 use Rattle.chain_words.specs.Kept.{sound_words, SettingsStay}
-use Rattle.chain_words.specs.Layout.{chain_at, no_chain, stands, chain_of_words}
+use Rattle.chain_words.specs.Layout.{stands, chain_of_words}
 use Rattle.chains.specs.Words.{Outcome, reset_outcome}
+use Rattle.chains.specs.laws.Words.{eight_at}
 use Rattle.chain_words.specs.laws.Keeping.{length_walked}
 use Rattle.chain_words.specs.laws.Front.{chain_front, stays_front, sound_front, cut_long, cut_stands, cut_chain}
 
@@ -30,14 +31,6 @@ few_cleared c e = go (leb c.count 8)
       length-drop c.count c.stages,
     )
     go false = omega (arith, length-take {A = Stage} c.count c.stages)
-
-eight_at : (w : List ℕ) → length (chain_of_words w).stages ≡ 8
-unfolding chain_of_words chain_at
-eight_at w = go (stands w)
-  where
-    go : (b : Bool) → length (cond b (chain_at w) no_chain).stages ≡ 8
-    go true = refl
-    go false = refl
 
 module _ (w x : List ℕ) (e : IsFirstChunk w x 152) where
   joined : x ++ drop 152 w ≡ w

@@ -1,5 +1,5 @@
 -- Words of which memories and counters alone are written: what stays, and the chain that they stand for. Assumes nothing.
-use Rattle.std.specs.Prelude.{◌≡◌, refl, true, List, ◌∷◌, ℕ, zero, suc, ◌+◌, ◌*◌, ◌≤◌, ◌<◌, length, set}
+use Rattle.std.specs.Prelude.{◌≡◌, refl, Bool, true, false, cond, List, ◌∷◌, ℕ, zero, suc, ◌+◌, ◌*◌, ◌≤◌, ◌<◌, length, set}
 use Rattle.std.proofs.Common.{sym, ap, ap₂, ◌∙◌, subst, arith}
 use Rattle.std.proofs.Math.Decide.{dec_lt}
 use Rattle.std.proofs.Math.Seq.{length-sets}
@@ -8,10 +8,19 @@ use Rattle.stage.specs.declared.Stage.{Stage}
 use Rattle.stage_words.specs.Layout.{word}
 use Rattle.words.specs.laws.Runs.{before_run, after_run}
 use Rattle.chain_words.specs.Kept.{SettingsStay}
-use Rattle.chain_words.specs.Layout.{counter_words, stage_at, stages_from, chain_at, stands}
+use Rattle.chain_words.specs.Layout.{counter_words, stage_at, stages_from, chain_at, stands, no_chain, chain_of_words}
 use Rattle.chain_words.specs.laws.Places.{other_place}
 use Rattle.chain_words.specs.laws.Keeping.{same_stages, same_kinds, counters_written, counters_apart, stages_apart}
 use Rattle.chains.specs.Chains.{with_stages}
+
+-- the chain has eight places, whether words stand for one or not
+pub eight_at : (w : List ℕ) → length (chain_of_words w).stages ≡ 8
+unfolding chain_of_words chain_at
+eight_at w = go (stands w)
+  where
+    go : (b : Bool) → length (cond b (chain_at w) no_chain).stages ≡ 8
+    go true = refl
+    go false = refl
 
 -- ---- what stays, from one call to the next
 pub stay_same : (w : List ℕ) → SettingsStay w w
