@@ -1,8 +1,8 @@
 // What a block or finish call answers: its numbers and values, the counters, the halves in turn, and the output as a part of one (pipeline.rs).
 #![tactic(auto)]
 
-ghost use Rattle.std.specs.Prelude.{◌≡◌, ◌≤◌, length};
-ghost use Rattle.answers.specs.Answers.{counted_up, last_half, output_answer, front_of, output_of, sound_of, answer_told, counted_if, unstaged};
+ghost use Rattle.std.specs.Prelude.{◌≡◌, ◌≤◌, ◌<◌, length};
+ghost use Rattle.answers.specs.Answers.{counted_up, last_half, output_answer, front_of, output_of, sound_of, answer_told, counted_if, unstaged, next_stage};
 ghost use Rattle.answers.specs.FinishAnswers.{finish_told};
 
 use pcm::{Error, PcmFormat};
@@ -201,6 +201,14 @@ pub fn copy_unstaged(count: usize, block: &[u8], a: &mut [u8])
     if count == 0 {
         copying::copy_front(block, a);
     }
+}
+
+// The stage after stage i, of `count`; none after one that delivers 0 bytes.
+pub fn next_stage(i: usize, count: usize, len: usize) -> usize
+    requires { i < count }
+    ensures { result ≡ next_stage i count len }
+{
+    if len == 0 { count } else { i + 1 }
 }
 
 // The output as a part of the half that holds it; empty if `len` exceeds that half.

@@ -1,12 +1,13 @@
 // The block call of a chain (pipeline.rs): room asked first, then the stages in turn over two lent halves.
 #![tactic(auto)]
 
-ghost use Rattle.std.specs.Prelude.{◌≡◌, OnErr};
+ghost use Rattle.std.specs.Prelude.{◌≡◌, ◌≤◌, length, take, OnErr};
 ghost use Rattle.pcm.specs.Refusals.{valued};
 ghost use Rattle.pipeline.specs.WritingBack.{stages_of};
 ghost use Rattle.questions.specs.Walk.{walked, Walked};
 ghost use Rattle.answers.specs.Answers.{answer_told, scratch_told};
 ghost use Rattle.turns.specs.Turns.{halves};
+ghost use Rattle.chain_words.specs.Layout.{chain_at};
 ghost use Rattle.chains.specs.Chains.{head_in, Headed};
 ghost use Rattle.block.specs.BlockCall.{block_call, accepted, block_verdict, size_asked, scratch_figure, scratch_bytes};
 ghost use Rattle.block.specs.Turns.{Accepts};
@@ -121,6 +122,20 @@ pub fn walked<C: Chain>(chain: &C, own: Head, asking: Asking, start: Walk) -> Re
     let mut walk = start;
     for i in 0..own.count {
         walk = asking.step(walk, chain.stage(i))?;
+    }
+    Ok(walk)
+}
+
+// The same along the first `count` stages of words, whether they stand for a chain or not.
+// Kept beside it: that chain's count may be another, and words that stand for none are read as one that has nine stages.
+pub fn walked_of_words(words: &[u32], count: usize, asking: Asking, start: Walk) -> Result<Walk, Error>
+    requires long { 152 ≤ length words.now }
+    requires start { Asks asking.question asking.shorter start.format.rate (chain_at words.now).stages count start start 0 }
+    ensures { Walked result (walked asking.question asking.shorter start (take count (chain_at words.now).stages)) }
+{
+    let mut walk = start;
+    for i in 0..count {
+        walk = asking.step(walk, chain_words::stage_at(words, i))?;
     }
     Ok(walk)
 }

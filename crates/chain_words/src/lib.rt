@@ -26,8 +26,8 @@ pub type Words = [u32; CHAIN_WORDS];
 // ---- the stage at a place
 // Its eighteen words.
 // Kept: `i < 8` in each contract: the place is a number that the walk counts, and a type of eight of them would be taken apart at every use.
-fn words_at(w: &Words, i: usize) -> &[u32; 18]
-    requires { i < 8 }
+fn words_at(w: &[u32], i: usize) -> &[u32; 18]
+    requires { (i < 8) × (152 ≤ length w.now) }
     ensures { result.now ≡ take 18 (place_of w.now i) }
 {
     let place = 8 + 18 * i;
@@ -36,15 +36,15 @@ fn words_at(w: &Words, i: usize) -> &[u32; 18]
 
 // Taken in by each caller, as `stage_words::stage_of` is.
 #[inline(always)]
-pub fn stage_at(w: &Words, i: usize) -> Stage
-    requires { i < 8 }
+pub fn stage_at(w: &[u32], i: usize) -> Stage
+    requires { (i < 8) × (152 ≤ length w.now) }
     ensures { result ≡ stage_at w.now i }
 {
     stage_words::stage_of(words_at(w, i))
 }
 
-pub fn put_stage_at(w: &mut Words, i: usize, s: Stage)
-    requires { i < 8 }
+pub fn put_stage_at(w: &mut [u32], i: usize, s: Stage)
+    requires { (i < 8) × (152 ≤ length w.old) }
     ensures { (w.new ≡ sets w.old (8 + 18 * i) (words_of_stage s)) × HeldStage s }
 {
     let place = 8 + 18 * i;
@@ -53,8 +53,8 @@ pub fn put_stage_at(w: &mut Words, i: usize, s: Stage)
 }
 
 // The whole memory; kind and settings stay.
-pub fn put_memory_at(w: &mut Words, i: usize, m: SoundMemory)
-    requires { i < 8 }
+pub fn put_memory_at(w: &mut [u32], i: usize, m: SoundMemory)
+    requires { (i < 8) × (152 ≤ length w.old) }
     ensures { (w.new ≡ sets w.old (8 + 18 * i + 7) (memory_words m)) × HeldFilter m.filter × TwoSamples m.resampler.last }
 {
     put_filter_at(w, i, m.filter);
@@ -63,8 +63,8 @@ pub fn put_memory_at(w: &mut Words, i: usize, m: SoundMemory)
 
 // Only what a stage of this kind remembers.
 #[tactic(auto, unfolding(stage_words::specs::Layout::held_at, stage_words::specs::Layout::held_words))]
-pub fn put_held_at(w: &mut Words, i: usize, kind: StageKind, m: SoundMemory)
-    requires { i < 8 }
+pub fn put_held_at(w: &mut [u32], i: usize, kind: StageKind, m: SoundMemory)
+    requires { (i < 8) × (152 ≤ length w.old) }
     ensures { (w.new ≡ sets w.old (8 + 18 * i + held_at kind) (held_words kind m)) × HeldBy kind m }
 {
     match kind {
@@ -74,16 +74,16 @@ pub fn put_held_at(w: &mut Words, i: usize, kind: StageKind, m: SoundMemory)
     }
 }
 
-fn put_filter_at(w: &mut Words, i: usize, m: FilterMemory)
-    requires { i < 8 }
+fn put_filter_at(w: &mut [u32], i: usize, m: FilterMemory)
+    requires { (i < 8) × (152 ≤ length w.old) }
     ensures { (w.new ≡ sets w.old (8 + 18 * i + 7) (filter_words m)) × HeldFilter m }
 {
     let place = 8 + 18 * i + 7;
     w[place..place + 8].copy_from_slice(&stage_words::filter_words(m));
 }
 
-fn put_state_at(w: &mut Words, i: usize, s: ResamplerState)
-    requires { i < 8 }
+fn put_state_at(w: &mut [u32], i: usize, s: ResamplerState)
+    requires { (i < 8) × (152 ≤ length w.old) }
     ensures { (w.new ≡ sets w.old (8 + 18 * i + 15) (state_words s)) × TwoSamples s.last }
 {
     let place = 8 + 18 * i + 15;
@@ -101,13 +101,15 @@ pub fn counter_at(w: &[u32], i: usize) -> u64
 }
 
 // How many stages are in use.
-pub fn count_of(w: &Words) -> usize
+pub fn count_of(w: &[u32]) -> usize
+    requires { 152 ≤ length w.now }
     ensures { result ≡ word w.now 0 }
 {
     w[0] as usize
 }
 
-pub fn format_of(w: &Words) -> PcmFormat
+pub fn format_of(w: &[u32]) -> PcmFormat
+    requires { 152 ≤ length w.now }
     ensures { result ≡ format_of w.now }
 {
     PcmFormat {
@@ -201,8 +203,8 @@ pub fn chain_of(w: &[u32]) -> Pipeline
     }
 }
 
-fn put_counter(w: &mut Words, i: usize, n: u64)
-    requires { i + 1 < 152 }
+fn put_counter(w: &mut [u32], i: usize, n: u64)
+    requires { i + 1 < length w.old }
     ensures { w.new ≡ sets w.old i (n % 2 ^ 32 ∷ n / 2 ^ 32 ∷ []) }
 {
     w[i] = (n % 4294967296) as u32;
@@ -210,7 +212,8 @@ fn put_counter(w: &mut Words, i: usize, n: u64)
 }
 
 // Both counters; the rest of the chain stays.
-pub fn put_counters(w: &mut Words, blocks: u64, empty_blocks: u64)
+pub fn put_counters(w: &mut [u32], blocks: u64, empty_blocks: u64)
+    requires { 152 ≤ length w.old }
     ensures { w.new ≡ sets w.old 3 (counter_words blocks empty_blocks) }
 {
     put_counter(w, 3, blocks);
@@ -218,7 +221,8 @@ pub fn put_counters(w: &mut Words, blocks: u64, empty_blocks: u64)
 }
 
 #[tactic(auto, unfolding(crate::specs::Layout::head_words))]
-fn put_head(w: &mut Words, chain: Pipeline)
+fn put_head(w: &mut [u32], chain: Pipeline)
+    requires { 152 ≤ length w.old }
     ensures { w.new ≡ sets w.old 0 (head_words chain) }
 {
     w[0] = (chain.count % 4294967296) as u32;
@@ -229,7 +233,8 @@ fn put_head(w: &mut Words, chain: Pipeline)
 }
 
 // The chain at the front of the words; words past it stay.
-pub fn put_chain(w: &mut Words, chain: Pipeline)
+pub fn put_chain(w: &mut [u32], chain: Pipeline)
+    requires { 152 ≤ length w.old }
     ensures { (w.new ≡ written (words_of chain) w.old) × All HeldStage chain.stages }
 {
     put_head(w, chain);
@@ -240,16 +245,16 @@ pub fn put_chain(w: &mut Words, chain: Pipeline)
 
 // The memories of the stages in use and both counters, all that a block or a reset alters; every other word stays.
 #[tactic(auto, unfolding(crate::specs::Kept::with_sound))]
-pub fn put_sound(w: &mut Words, chain: Pipeline)
-    requires { chain.count ≤ 8 }
+pub fn put_sound(w: &mut [u32], chain: Pipeline)
+    requires { (chain.count ≤ 8) × (152 ≤ length w.old) }
     ensures { (w.new ≡ sound_words w.old chain) × All HeldMemory (stages_of chain) }
 {
     put_memories(w, &chain.stages[..chain.count]);
     put_counters(w, chain.blocks, chain.empty_blocks);
 }
 
-fn put_memories(w: &mut Words, stages: &[Stage])
-    requires { length stages.now ≤ 8 }
+fn put_memories(w: &mut [u32], stages: &[Stage])
+    requires { (length stages.now ≤ 8) × (152 ≤ length w.old) }
     ensures { (w.new ≡ kept_words w.old 0 stages.now) × All HeldMemory stages.now }
 {
     for (i, s) in stages.iter().enumerate() {

@@ -8,7 +8,7 @@ use Rattle.stage.specs.declared.Stage.{Stage}
 use Rattle.stage.specs.declared.StageKind.{StageKind}
 use Rattle.stage.specs.declared.StageKind.TheVariants as kind
 use Rattle.stage.specs.Stages.{remembers, keeps_of, stage_next}
-use Rattle.stage.specs.laws.Places.{no_stage}
+use Rattle.stage.specs.Places.{no_stage}
 use Rattle.pipeline.specs.declared.Pipeline.{Pipeline}
 use Rattle.chains.specs.Chains.{stage_in, Follows, with_stages}
 

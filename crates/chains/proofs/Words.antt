@@ -8,7 +8,7 @@ use Rattle.pcm.specs.laws.Tests.{both}
 use Rattle.stage.specs.declared.Stage.{Stage}
 use Rattle.stage.specs.declared.StageKind.{StageKind}
 use Rattle.stage.specs.Stages.{stage_next}
-use Rattle.stage.specs.laws.Places.{no_stage}
+use Rattle.stage.specs.Places.{no_stage}
 use Rattle.pipeline.specs.declared.Pipeline.{Pipeline}
 use Rattle.pipeline.specs.Reset.{reset_call}
 use Rattle.answers.specs.Answers.{counted_up, counted_if}
@@ -23,22 +23,12 @@ use Rattle.chain_words.specs.laws.Chains.{stands_long, stands_chain, few_stands,
 use Rattle.chain_words.specs.laws.Places.{place_small}
 use Rattle.chains.specs.Chains.{head_of, InUse, stage_in, Follows, with_stages, counted}
 use Rattle.chains.proofs.Cleared.{count_of_words, no_chain_reset}
-use Rattle.chains.specs.laws.Words.{put_stays, chain_put, counted_stays, chain_counted, stays_stand}
+use Rattle.chains.specs.laws.Words.{stage_of_eight, put_stays, chain_put, counted_stays, chain_counted, stays_stand}
 
 -- ---- its parts
 count_at : (w : List ℕ) → (chain_at w).count ≡ word w 0
 unfolding chain_at
 count_at w = refl
-
--- stages by their number
-stage_of_eight : (w : List ℕ) (i : ℕ) (d : Stage) → i < 8 → get_or (chain_at w).stages i d ≡ stage_at w i
-unfolding chain_at
-stage_of_eight w i d h = let e : 0 + i ≡ i = omega arith in go 8 0 i h ∙ ap (stage_at w) e
-  where
-    go : (n k i : ℕ) → i < n → get_or (stages_from w k n) i d ≡ stage_at w (k + i)
-    go zero k i h = absurd (let z : ⊥ = omega arith in z)
-    go (suc n) k zero h = let e : k + 0 ≡ k = omega arith in rw e
-    go (suc n) k (suc i) h = let e : suc k + i ≡ k + suc i = omega arith in go n (suc k) i (omega arith) ∙ ap (stage_at w) e
 
 -- ---- the head
 few_words : (w : List ℕ) → stands w ≡ true → leb (word w 0) 8 ≡ true

@@ -6,7 +6,7 @@ use Rattle.pcm.specs.Formats.{format_allowed}
 use Rattle.pcm.specs.Frames.{Frame}
 use Rattle.stage.specs.declared.Stage.{Stage}
 use Rattle.stage.specs.Stages.{stage_next}
-use Rattle.stage.specs.laws.Places.{no_stage}
+use Rattle.stage.specs.Places.{no_stage}
 use Rattle.pipeline.specs.declared.Pipeline.{Pipeline}
 use Rattle.answers.specs.Answers.{counted_up, counted_if}
 use Rattle.chains.specs.declared.Head.{Head}

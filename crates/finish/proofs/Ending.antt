@@ -5,7 +5,7 @@ use Rattle.pcm.specs.declared.PcmFormat.{PcmFormat}
 use Rattle.pcm.specs.Frames.{frames_of}
 use Rattle.stage.specs.declared.Stage.{Stage}
 use Rattle.stage.specs.Stages.{stage_clipped, format_after}
-use Rattle.stage.specs.laws.Places.{no_stage}
+use Rattle.stage.specs.Places.{no_stage}
 use Rattle.pipeline.specs.declared.Pipeline.{Pipeline}
 use Rattle.pipeline.specs.Reset.{reset_call}
 use Rattle.answers.specs.declared.Answer.{Answer}

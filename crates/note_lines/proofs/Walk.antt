@@ -1,7 +1,7 @@
 -- The walk over a recipe's records: the lines of those that are left, one taken. Assumes nothing.
 use Rattle.std.proofs.Common.{◌≡◌, ap, ◌∙◌, List, [], ◌∷◌, ◌++◌, ℕ, ◌+◌, length, length-append}
-use Rattle.recipe.specs.Records.{WholeRecords}
-use Rattle.recipe.specs.laws.Records.{Whole, whole_record}
+use Rattle.recipe.specs.Records.{Whole, WholeRecords}
+use Rattle.recipe.specs.laws.Records.{whole_record}
 use Rattle.note_lines.specs.laws.Lines.{line_here, record_lines, lines_none, lines_next}
 
 pub none_left : {rs : List (List ℕ)} → rs ≡ [] → record_lines rs ≡ []

@@ -4,11 +4,10 @@
 ghost use Rattle.std.specs.Prelude.{◌≡◌, map, ◌+◌, ◌*◌, ◌≤◌, ◌<◌, length};
 ghost use Rattle.std.proofs.lemmas.List.Edits.{sets};
 ghost use Rattle.pcm.specs.Frames.{flat, written};
-ghost use Rattle.recipe.specs.Records.{records, WholeRecords};
+ghost use Rattle.recipe.specs.Records.{records, Whole, WholeRecords};
 ghost use Rattle.pipeline.specs.WritingBack.{write_told};
 ghost use Rattle.note_lines.specs.Lines.{digit, hex_of, line_of, lines_of};
 ghost use Rattle.note_lines.specs.Page.{desk_verdict, number_line, printed, page_of, page_call, page_told};
-ghost use Rattle.recipe.specs.laws.Records.{Whole};
 ghost use Rattle.recipe.specs.Notes.{note_at};
 ghost use Rattle.note_lines.specs.laws.Lines.{line_here};
 ghost use Rattle.note_lines.specs.laws.Page.{Readable};

@@ -9,7 +9,7 @@ use lib.Seq.{take_all}
 use Rattle.pcm.specs.declared.PcmFormat.{PcmFormat}
 use Rattle.stage.specs.declared.Stage.{Stage}
 use Rattle.stage.specs.Stages.{format_after, stage_clear}
-use Rattle.stage.specs.laws.Places.{no_stage}
+use Rattle.stage.specs.Places.{no_stage}
 use Rattle.pipeline.specs.Reset.{format_leaving}
 
 -- ---- laws: one stage more

@@ -1,6 +1,6 @@
 -- The records of a recipe and the questions that their bytes are asked (document 01, 'The recipe' and 'The questions'; document 02, Q-4). Definitions only.
 use Rattle.pcm.specs.declared.Error.{Error}
-use Rattle.std.specs.Prelude.{◌≡◌, Bool, true, ◌&&◌, ◌||◌, cond, List, [], ◌∷◌, ◌++◌, ℕ, zero, suc, ◌+◌, ◌-◌, ◌*◌, leb, ltb, eqb, length, get_or, take, drop, Ok, Err, Result, Option, Some, None}
+use Rattle.std.specs.Prelude.{◌≡◌, Bool, true, ◌&&◌, ◌||◌, cond, List, [], ◌∷◌, ◌++◌, ℕ, zero, suc, ◌+◌, ◌-◌, ◌*◌, ◌≤◌, leb, ltb, eqb, length, get_or, take, drop, Ok, Err, Result, Option, Some, None}
 use Rattle.std.specs.Int.{w32}
 use Rattle.std.proofs.Common.{to_z, of_z}
 use Rattle.pcm.specs.Samples.{All}
@@ -114,6 +114,18 @@ records bytes = records_after 0 bytes
 -- the bytes of the record at the front
 abbrev pub record_here : List ℕ → List ℕ
 record_here left = take (2 + length_at left) left
+
+-- the bytes after it
+abbrev pub after_next : List ℕ → List ℕ
+after_next left = drop (2 + length_at left) left
+
+-- its questions all answered yes
+pub record Whole (left : List ℕ) : Type 0 where
+  pub four : 4 ≤ length left
+  pub two : 2 ≤ length_at left
+  pub kind : known (kind_at left) ≡ true
+  pub size : length_verdict (kind_at left) (length_at left) ≡ Ok tt
+  pub there : 2 + length_at left ≤ length left
 
 -- the questions of every record answered yes
 abbrev pub WholeRecords : List (List ℕ) → Type 0

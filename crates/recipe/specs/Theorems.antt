@@ -13,10 +13,10 @@ use Rattle.recipe.specs.declared.Entry.TheVariants as entry
 use Rattle.words.specs.Words.{words_bytes}
 use Rattle.words.specs.laws.Words.{word_there, words_there}
 use Rattle.recipe.specs.Kinds.{kind_number}
-use Rattle.recipe.specs.Records.{of_note, record_kind, fields_of, record_bytes, length_at, kind_at, record_at, record_verdict, entry_at, read_record, records}
+use Rattle.recipe.specs.Records.{of_note, record_kind, fields_of, record_bytes, length_at, kind_at, record_at, record_verdict, entry_at, read_record, records, after_next}
 use Rattle.recipe.specs.Notes.{notes_in, without_notes}
 use Rattle.recipe.specs.laws.Notes.{records_joined, none_taken_out}
-use Rattle.recipe.specs.laws.Records.{note_known, record_size, few_record_fields, after_next}
+use Rattle.recipe.specs.laws.Records.{note_known, record_size, few_record_fields}
 use Rattle.recipe.specs.RoundTrip.{Fitting}
 use Rattle.recipe.specs.laws.RoundTrip.{fitting_words, kind_of_stage, kind_small, kind_fields, record_again}
 

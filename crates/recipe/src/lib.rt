@@ -8,8 +8,7 @@ ghost use Rattle.words.specs.Words.{words, words_bytes};
 ghost use Rattle.std.proofs.lemmas.List.Edits.{sets};
 ghost use Rattle.pcm.specs.declared.Error.TheVariants.{UnknownStage};
 ghost use Rattle.recipe.specs.Kinds.{kind_number};
-ghost use Rattle.recipe.specs.laws.Records.{after_next};
-ghost use Rattle.recipe.specs.Records.{of_stage, of_note, kind_at, field_count, record_verdict, record_of, record_kind, read_record, record_bytes, fields_of, records, KindRead};
+ghost use Rattle.recipe.specs.Records.{of_stage, of_note, kind_at, field_count, record_verdict, record_of, record_kind, read_record, record_bytes, fields_of, records, KindRead, after_next};
 
 use biquad::CoefficientBits;
 use pcm::Error;

@@ -7,7 +7,6 @@ ghost use Rattle.std.specs.Prelude.{◌<◌, ◌≤◌};
 use answers::Answer;
 use pcm::{Error, PcmFormat};
 use pipeline::Pipeline;
-use std::io;
 
 // One more number in a checksum of 32 bits.
 fn summed(checksum: u32, n: u32) -> u32 {
@@ -76,10 +75,10 @@ impl Tally {
         }
     }
 
-    // Frames and checksum; then, in a line of its own, the samples held back.
-    fn print(self, rt: &impl Print) -> io::Result<()> {
-        println!(rt; "{} frames, checksum {}", self.frames, self.checksum)?;
-        println!(rt; "{} clipped", self.clipped)
+    // Frames and checksum; then, in a line of its own, the samples held back. A line that can't be written is passed over.
+    fn print(self, rt: &impl Print) {
+        let _ = println!(rt; "{} frames, checksum {}", self.frames, self.checksum);
+        let _ = println!(rt; "{} clipped", self.clipped);
     }
 }
 
@@ -128,7 +127,7 @@ impl Run {
 }
 
 // 8,192 frames of noise through the chain, `times` times but at least once, and what came out.
-fn play(rt: &impl Print, chain: Pipeline, times: u32, frames: usize) -> io::Result<()>
+fn play(rt: &impl Print, chain: Pipeline, times: u32, frames: usize)
     requires { (0 < frames) × (frames ≤ 8192) }
 {
     let frame = frame_bytes(chain.format.channels);
@@ -145,26 +144,27 @@ fn play(rt: &impl Print, chain: Pipeline, times: u32, frames: usize) -> io::Resu
     for _ in 1..times {
         run.pass(false, frames * frame, sound);
     }
-    run.tally.print(rt)
+    run.tally.print(rt);
 }
 
 // The chain that a script asks for, and sound through it.
-fn play_script(rt: &impl Print, head: &[u8; 16], recipe: &[u8]) -> io::Result<()> {
+fn play_script(rt: &impl Print, head: &[u8; 16], recipe: &[u8]) {
     let rate = words::get_u32(head, 0);
     let channels = (words::get_u32(head, 4) % 65536) as u16;
     let frames = words::get_u32(head, 8).clamp(1, 8192);
     let times = words::get_u32(head, 12);
     let Ok(chain) = Pipeline::open(PcmFormat { rate, channels }, recipe) else {
-        return println!(rt; "refused");
+        let _ = println!(rt; "refused");
+        return;
     };
-    play(rt, chain, times, frames as usize)
+    play(rt, chain, times, frames as usize);
 }
 
-fn main(rt: HostRuntime) -> io::Result<()> {
+fn main(rt: HostRuntime) {
     let mut script = [0u8; 4096];
-    let count = files::fill(&mut rt.stdin(), &mut script)?;
-    match script[..count].split_first_chunk() {
-        Some((head, recipe)) => play_script(&rt, head, recipe),
-        None => Ok(()),
+    // What could be read, also where a read fails.
+    let count = io::read_full(0, &mut script);
+    if let Some((head, recipe)) = script[..count].split_first_chunk() {
+        play_script(&rt, head, recipe);
     }
 }

@@ -1,4 +1,3 @@
-pub mod Places
 pub mod Products
 pub mod Rooms
 pub mod Serving

@@ -1,7 +1,7 @@
 // A stage as eighteen plain words: its kind and settings, then what it remembers.
 #![tactic(auto)]
 
-ghost use Rattle.std.specs.Prelude.{◌≡◌, [], ◌∷◌, ◌<◌, T};
+ghost use Rattle.std.specs.Prelude.{◌≡◌, [], ◌∷◌, ◌≤◌, ◌<◌, length, T};
 ghost use Rattle.std.specs.Float.{binary32};
 ghost use Rattle.std.specs.Float.Ieee.{fits};
 ghost use Rattle.floats.specs.Floats.{pattern_of};
@@ -15,9 +15,9 @@ use gain::Gain;
 use rates::{LinearResampler, ResamplerState};
 use stage::{SoundMemory, Stage, StageKind};
 
-// ---- a stage, from its words
-fn float_at(w: &[u32; 18], i: usize) -> f32
-    requires { i < 18 }
+// ---- a stage, from the words that begin at its place
+fn float_at(w: &[u32], i: usize) -> f32
+    requires { i < length w.now }
     ensures { result ≡ float_at w.now i }
 {
     floats::float_of_bits(w[i])
@@ -27,7 +27,8 @@ fn float_at(w: &[u32; 18], i: usize) -> f32
 // Kept: numbers for kinds, here and in `setting_words`: they are words of C's, and this is where they become a kind, with their fields. A
 // kind that is not there is read as mono to stereo, whose number is 2.
 #[tactic(auto, unfolding(crate::specs::Layout::kind_of))]
-pub fn kind_of(w: &[u32; 18]) -> StageKind
+pub fn kind_of(w: &[u32]) -> StageKind
+    requires { 18 ≤ length w.now }
     ensures { result ≡ kind_of w.now (word w.now 0) }
 {
     match *w {
@@ -54,7 +55,8 @@ pub fn kind_of(w: &[u32; 18]) -> StageKind
 }
 
 #[tactic(auto, unfolding(crate::specs::Layout::filter_of))]
-pub fn filter_of(w: &[u32; 18]) -> FilterMemory
+pub fn filter_of(w: &[u32]) -> FilterMemory
+    requires { 18 ≤ length w.now }
     ensures { result ≡ filter_of w.now }
 {
     FilterMemory {
@@ -66,7 +68,8 @@ pub fn filter_of(w: &[u32; 18]) -> FilterMemory
 }
 
 #[tactic(auto, unfolding(crate::specs::Layout::state_of))]
-pub fn state_of(w: &[u32; 18]) -> ResamplerState
+pub fn state_of(w: &[u32]) -> ResamplerState
+    requires { 18 ≤ length w.now }
     ensures { result ≡ state_of w.now }
 {
     let left = (w[15] % 65536) as u16;
@@ -78,7 +81,8 @@ pub fn state_of(w: &[u32; 18]) -> ResamplerState
     }
 }
 
-pub fn memory_of(w: &[u32; 18]) -> SoundMemory
+pub fn memory_of(w: &[u32]) -> SoundMemory
+    requires { 18 ≤ length w.now }
     ensures { result ≡ memory_of w.now }
 {
     SoundMemory {
@@ -89,7 +93,8 @@ pub fn memory_of(w: &[u32; 18]) -> SoundMemory
 
 // Taken in by each caller: what it does not ask of the stage is not read.
 #[inline(always)]
-pub fn stage_of(w: &[u32; 18]) -> Stage
+pub fn stage_of(w: &[u32]) -> Stage
+    requires { 18 ≤ length w.now }
     ensures { result ≡ stage_of w.now }
 {
     Stage {

@@ -7,7 +7,7 @@ use native.Mathlib.Omega.{arith}
 use lib.ListN.{length, take, drop, get_or, length-append, take-append-drop}
 use lib.Seq.{take-suc}
 use Rattle.stage.specs.declared.Stage.{Stage}
-use Rattle.stage.specs.laws.Places.{no_stage}
+use Rattle.stage.specs.Places.{no_stage}
 use Rattle.recipe.specs.declared.Record.{Record}
 use Rattle.recipe.specs.Records.{record_bytes}
 use Rattle.recipe.specs.laws.Records.{record_size, few_record_fields}

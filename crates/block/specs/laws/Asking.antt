@@ -16,7 +16,7 @@ use Rattle.block.specs.laws.Steps.{stage_at_lem, stages_end, drop_zero}
 use Rattle.questions.specs.Walk.{head_legal, stepped, begun, walk_on, walked, ShortFits, Walked, verdict_from}
 use Rattle.block.specs.laws.Walking.{Within, few, step_within, begun_within, verdict_is}
 use Rattle.questions.specs.laws.Walking.{walked_step, walked_none}
-use Rattle.stage.specs.laws.Places.{no_stage}
+use Rattle.stage.specs.Places.{no_stage}
 use Rattle.block.specs.laws.Counts.{no_stages, some_stages, not_none}
 
 -- what a legal head says

@@ -16,7 +16,7 @@ use Rattle.chains.specs.laws.Heads.{headless}
 use Rattle.block.specs.BlockCall.{block_verdict, scratch_answer, scratch_bytes}
 use Rattle.block.specs.laws.Asking.{Asks, head_parts, asks_begin, walk_verdict}
 use Rattle.block.specs.laws.Concluding.{head_refused}
-use Rattle.block.specs.laws.Walking.{scratch_refused, scratch_is, scratch_unsuited}
+use Rattle.block.specs.laws.Walking.{scratch_refused, scratch_walked, scratch_unsuited}
 
 module _ (c : Pipeline) (own : Head) (e : Headed c own) where
   pub format_is : own.format ≡ c.format
@@ -52,7 +52,7 @@ module _ (c : Pipeline) (own : Head) (e : Headed c own) where
     pub figure_at : (w : Walk) (v : Verdict) → r ≡ Ok w → v ≡ size_verdict own.format size → scratch_answer v (2 * w.largest) ≡ scratch_bytes c size
     figure_at w v k s =
         ap (λ (x : Verdict). scratch_answer x (2 * w.largest)) (s ∙ ap (λ (f : PcmFormat). size_verdict f size) format_is)
-        ∙ scratch_is c size e.legal w (found ∙ k)
+        ∙ scratch_walked c size e.legal w (found ∙ k)
 
     pub unsuited_at : (x : Error) → r ≡ Err x → Err x ≡ scratch_bytes c size
     unsuited_at x k = scratch_unsuited c size e.legal x (found ∙ k)

@@ -31,7 +31,7 @@ use Rattle.block.specs.Turns.{Accepts}
 use Rattle.answers.specs.Answers.{unstaged, next_stage}
 use Rattle.chains.specs.Chains.{with_stages}
 use Rattle.block.specs.laws.Reaching.{Sized, positive, shorter_a, shorter_b, format_none, passed_none, turns_of, takes, suit_here, ahead, source_out, none_out, next_reached, sized_out, stopped, ended, begun}
-use Rattle.stage.specs.laws.Places.{no_stage}
+use Rattle.stage.specs.Places.{no_stage}
 use Rattle.block.specs.laws.Counts.{no_stages, some_stages, all_stages, halves_some}
 
 -- after a stage that delivers something the next one has its turn, after any other none

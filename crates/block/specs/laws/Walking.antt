@@ -379,6 +379,11 @@ after_none : (v : Verdict) → and_then v (Ok tt) ≡ v
 after_none (Ok _) = refl
 after_none (Err e) = refl
 
+-- what the walk that asks for it comes to
+abbrev pub figure_from : PcmFormat → ℕ → Result Walk Error → Result ℕ Error
+figure_from f size (Ok w) = scratch_answer (size_verdict f size) (2 * w.largest)
+figure_from f size (Err e) = Err e
+
 module _ (c : Pipeline) (size : ℕ) (head : head_legal c.format c.count ≡ true) where
   abbrev first : Walk
   first = begun c.format 0 size size
@@ -399,9 +404,9 @@ module _ (c : Pipeline) (size : ℕ) (head : head_legal c.format c.count ≡ tru
   asked = asked_is c size head AnyState size first (Ok tt) at_first.format ∙ after_none (sized_from c.format size (walked AnyState size first (stages_of c)))
 
   -- a walk that came to its end
-  pub scratch_is : (w : Walk) → walked AnyState size first (stages_of c) ≡ Ok w → scratch_answer (size_verdict c.format size) (2 * w.largest) ≡ scratch_bytes c size
+  pub scratch_walked : (w : Walk) → walked AnyState size first (stages_of c) ≡ Ok w → scratch_answer (size_verdict c.format size) (2 * w.largest) ≡ scratch_bytes c size
   unfolding scratch_bytes sized_from
-  scratch_is w e =
+  scratch_walked w e =
       same_figure (size_verdict c.format size) _ _ (λ h. ap (λ (n : ℕ). 2 * n) (ap (λ (x : Walk). x.largest) (walked_ok AnyState size first (stages_of c) w e).1 ∙ figure_is h))
       ∙ ap (λ (v : Verdict). scratch_answer v (scratch_figure c size)) (sym (asked ∙ ap (sized_from c.format size) e))
 
@@ -409,3 +414,11 @@ module _ (c : Pipeline) (size : ℕ) (head : head_legal c.format c.count ≡ tru
   pub scratch_unsuited : (x : Error) → walked AnyState size first (stages_of c) ≡ Err x → Err x ≡ scratch_bytes c size
   unfolding scratch_bytes sized_from
   scratch_unsuited x e = sym (ap (λ (v : Verdict). scratch_answer v (scratch_figure c size)) (asked ∙ ap (sized_from c.format size) e))
+
+  -- so whatever the walk came to
+  pub scratch_is : figure_from c.format size (walked AnyState size first (stages_of c)) ≡ scratch_bytes c size
+  scratch_is = go (walked AnyState size first (stages_of c)) refl
+    where
+      go : (r : Result Walk Error) → walked AnyState size first (stages_of c) ≡ r → figure_from c.format size r ≡ scratch_bytes c size
+      go (Ok w) e = scratch_walked w e
+      go (Err x) e = scratch_unsuited x e

@@ -3,7 +3,7 @@ use Rattle.std.proofs.lemmas.List.{take_all}
 use Rattle.std.proofs.lemmas.List.Edits.{sets}
 use Rattle.pcm.specs.Samples.{All}
 use Rattle.stage.specs.declared.Stage.{Stage}
-use Rattle.stage.specs.laws.Places.{no_stage}
+use Rattle.stage.specs.Places.{no_stage}
 use Rattle.stage_words.specs.Layout.{words_of_stage}
 use Rattle.stage_words.specs.Storable.{HeldStage}
 use Rattle.words.specs.laws.Runs.{sets_append}

@@ -1,7 +1,7 @@
 use Rattle.std.proofs.Common.{◌≡◌, List, ℕ, ◌+◌, ◌*◌, ◌<◌, length, take, get_or, sym, ap, ◌∙◌, arith, length-take-le, add-one}
 use Rattle.std.proofs.lemmas.List.Edits.{sets}
 use Rattle.std.proofs.Math.Seq.{take-suc}
-use Rattle.stage.specs.laws.Places.{no_stage}
+use Rattle.stage.specs.Places.{no_stage}
 use Rattle.stage_words.specs.Layout.{memory_words}
 use Rattle.stage_words.specs.Storable.{HeldMemory}
 use Rattle.chain_words.specs.Kept.{kept_words}

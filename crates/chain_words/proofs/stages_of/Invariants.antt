@@ -1,5 +1,5 @@
 use Rattle.std.proofs.Common.{◌≡◌, ℕ, ◌<◌, length, get_or}
-use Rattle.stage.specs.laws.Places.{no_stage}
+use Rattle.stage.specs.Places.{no_stage}
 use Rattle.chain_words.specs.Layout.{stage_at}
 use Rattle.chain_words.proofs.stages_of.Given as goal
 

@@ -1,5 +1,5 @@
 -- Words of which memories and counters alone are written: what stays, and the chain that they stand for. Assumes nothing.
-use Rattle.std.specs.Prelude.{◌≡◌, refl, Bool, true, false, cond, List, ◌∷◌, ℕ, zero, suc, ◌+◌, ◌*◌, ◌≤◌, ◌<◌, length, set}
+use Rattle.std.specs.Prelude.{◌≡◌, refl, Bool, true, false, cond, List, ◌∷◌, ℕ, zero, suc, ◌+◌, ◌*◌, ◌≤◌, ◌<◌, length, get_or, set}
 use Rattle.std.proofs.Common.{sym, ap, ap₂, ◌∙◌, subst, arith}
 use Rattle.std.proofs.Math.Decide.{dec_lt}
 use Rattle.std.proofs.Math.Seq.{length-sets}
@@ -21,6 +21,16 @@ eight_at w = go (stands w)
     go : (b : Bool) → length (cond b (chain_at w) no_chain).stages ≡ 8
     go true = refl
     go false = refl
+
+-- stages by their number
+pub stage_of_eight : (w : List ℕ) (i : ℕ) (d : Stage) → i < 8 → get_or (chain_at w).stages i d ≡ stage_at w i
+unfolding chain_at
+stage_of_eight w i d h = let e : 0 + i ≡ i = omega arith in go 8 0 i h ∙ ap (stage_at w) e
+  where
+    go : (n k i : ℕ) → i < n → get_or (stages_from w k n) i d ≡ stage_at w (k + i)
+    go zero k i h = absurd (let z : ⊥ = omega arith in z)
+    go (suc n) k zero h = let e : k + 0 ≡ k = omega arith in rw e
+    go (suc n) k (suc i) h = let e : suc k + i ≡ k + suc i = omega arith in go n (suc k) i (omega arith) ∙ ap (stage_at w) e
 
 -- ---- what stays, from one call to the next
 pub stay_same : (w : List ℕ) → SettingsStay w w

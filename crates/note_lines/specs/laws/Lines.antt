@@ -3,9 +3,9 @@ use Rattle.std.specs.Prelude.{◌≡◌, refl, Bool, true, false, cond, List, []
 use Rattle.std.proofs.Common.{ap, ap₂, ◌∙◌, append-nil, arith, length-append, length-drop, length-take-le}
 use Rattle.pcm.specs.Frames.{flat}
 use Rattle.pcm.specs.laws.Frames.{flat_append, map_append}
-use Rattle.recipe.specs.Records.{of_note, length_at, kind_at, records, record_here, WholeRecords}
+use Rattle.recipe.specs.Records.{of_note, length_at, kind_at, records, record_here, Whole, WholeRecords}
 use Rattle.recipe.specs.Notes.{Note, note_at, note_here, notes_in}
-use Rattle.recipe.specs.laws.Records.{Whole, whole_record}
+use Rattle.recipe.specs.laws.Records.{whole_record}
 use Rattle.recipe.specs.laws.Notes.{records_joined}
 use Rattle.note_lines.specs.Lines.{hex_of, line_of, lines_of}
 

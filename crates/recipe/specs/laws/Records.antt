@@ -8,7 +8,7 @@ use Rattle.recipe.specs.declared.Record.TheVariants as rec
 use Rattle.words.specs.laws.Words.{length_words}
 use Rattle.pcm.specs.laws.Tests.{both}
 use Rattle.pcm.specs.laws.Refusals.{ask_yes, then_yes}
-use Rattle.recipe.specs.Records.{of_stage, of_note, known, field_count, fields_of, record_bytes, length_at, kind_at, length_verdict, record_verdict, records_after, records}
+use Rattle.recipe.specs.Records.{of_stage, of_note, known, field_count, fields_of, record_bytes, length_at, kind_at, length_verdict, record_verdict, records_after, records, after_next, Whole}
 
 pub stage_within : (kind : ℕ) → of_stage kind ≡ true → (0 < kind) × (kind ≤ 6)
 stage_within kind h = let k = both (ltb 0 kind) (leb kind 6) h in (ltb-true 0 kind k.0, leb-true kind 6 k.1)
@@ -29,13 +29,6 @@ note_known kind n = second (of_stage kind) (of_note kind) n
     second false b e = e
 
 -- ---- a record whose questions were all answered yes
-pub record Whole (left : List ℕ) : Type 0 where
-  pub four : 4 ≤ length left
-  pub two : 2 ≤ length_at left
-  pub kind : known (kind_at left) ≡ true
-  pub size : length_verdict (kind_at left) (length_at left) ≡ Ok tt
-  pub there : 2 + length_at left ≤ length left
-
 pub whole_record : (left : List ℕ) → record_verdict left ≡ Ok tt → Whole left
 unfolding record_verdict
 whole_record left h =
@@ -60,10 +53,6 @@ whole_stage left w n =
     record { four = w.four; kind = no_note_stage (kind_at left) w.kind n; size = s; there = omega (arith, w.there) }
 
 -- ---- the records of bytes
--- the bytes after the record at the front
-abbrev pub after_next : List ℕ → List ℕ
-after_next left = drop (2 + length_at left) left
-
 records-drop : (pass : ℕ) (l : List ℕ) → records_after pass l ≡ records (drop pass l)
 unfolding records_after
 records-drop pass [] = rw (drop-nil {A = ℕ} pass)

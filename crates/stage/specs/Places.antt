@@ -1,4 +1,4 @@
--- The default that the toolchain fixes for an array of stages. Assumes nothing.
+-- The stage that the language reads past the end of an array of stages. Definitions only.
 use Rattle.std.specs.Prelude.{false, [], pos}
 use Rattle.stage.specs.declared.StageKind.TheVariants as kind
 use Rattle.stage.specs.declared.Stage.{Stage}
