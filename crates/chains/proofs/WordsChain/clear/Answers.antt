@@ -1,4 +1,4 @@
-use Rattle.std.proofs.Common.{◌≡◌, sym, ap, ◌∙◌, subst, ◌≤◌}
+use Rattle.std.proofs.Common.{◌≡◌, sym, ap, ◌∙◌, subst, arith, ◌≤◌}
 use Rattle.pcm.specs.Samples.{All}
 use Rattle.pipeline.specs.declared.Pipeline.{Pipeline}
 use Rattle.pipeline.specs.Reset.{reset_call}
@@ -13,7 +13,7 @@ use Rattle.chains.proofs.WordsChain.clear.Goals as goal
 pub put_sound-requires : goal.put_sound-requires
 put_sound-requires c =
     let q : c.reset-cleared.result ≡ reset_call (chain_of_words c.args.self.now) = c.reset-cleared.ensures ∙ ap reset_call c.chain_of-own.ensures.0 in
-    subst (λ (x : Pipeline). x.count ≤ 8) (sym q) (reset_few c.args.self.now (few_stands _ c.requires))
+    (subst (λ (x : Pipeline). x.count ≤ 8) (sym q) (reset_few c.args.self.now (few_stands _ c.requires)), omega arith)
 
 pub returns-clause-is : goal.returns-clause-is
 returns-clause-is c =
