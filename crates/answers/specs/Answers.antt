@@ -6,7 +6,8 @@ use Rattle.answers.specs.declared.Half.{Half}
 use Rattle.answers.specs.declared.Half.TheVariants as half
 use Rattle.answers.specs.declared.Answer.{Answer}
 use Rattle.answers.specs.declared.Answer.TheVariants as answer
-use Rattle.pcm.specs.Refusals.{refusal, Valued, valued}
+use Rattle.pcm.specs.Refusals.{refusal, value_told}
+use Rattle.pcm.specs.declared.Valued.{Valued}
 use Rattle.answers.specs.declared.Told.{Told}
 use Rattle.pcm.specs.Frames.{written}
 
@@ -59,8 +60,7 @@ answer_told (Err e) = silent_told (refusal e).number (refusal e).needed 0 0
 
 -- ---- scratch_bytes: number and value
 abbrev pub scratch_told : (Result ℕ Error) → Valued
-scratch_told (Ok n) = valued (Ok tt) n
-scratch_told (Err e) = valued (Err e) 0
+scratch_told = value_told
 
 -- a counter that grows where no bytes came out
 abbrev pub counted_if : ℕ → ℕ → ℕ

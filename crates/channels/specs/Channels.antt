@@ -7,6 +7,7 @@ use Rattle.pcm.specs.Samples.{held16, outside16, decode, encode}
 use Rattle.pcm.specs.Frames.{Frame, frames_of, bytes_of, written}
 use Rattle.counting.specs.Counting.{count_of}
 use Rattle.mean.specs.Mean.{mean}
+use Rattle.channels.specs.declared.MixTold.{MixTold}
 
 -- mono to stereo doubles each sample
 abbrev pub doubled : Frame → Frame
@@ -64,11 +65,6 @@ after_mix (Ok clipped) a b out = written (mixed_bytes a b) out
 after_mix (Err e) a b out = out
 
 -- ---- the paper's number, needed and count: of each case, and of a call whose questions came to a verdict
-pub record MixTold : Type 0 where
-  pub number : ℕ
-  pub needed : ℕ
-  pub clipped : ℕ
-
 abbrev pub mix_told : (Result ℕ Error) → MixTold
 mix_told (Ok clipped) = record { number = 0; needed = 0; clipped = clipped }
 mix_told (Err e) = record { number = (refusal e).number; needed = (refusal e).needed; clipped = 0 }

@@ -8,6 +8,34 @@ ghost use Rattle.channels.specs.Channels.{stereo_bytes, mono_bytes, mixed, mixed
 
 use pcm::Error;
 
+// Number and values of a mix's answer: the bytes needed where it is refused for room, and how many sums were held back where it is accepted.
+#[derive(Clone, Copy)]
+pub struct MixTold {
+    pub number: u16,
+    pub needed: usize,
+    pub clipped: usize,
+}
+
+impl From<Result<usize, Error>> for MixTold {
+    ghost from_gives = { λ answer told. told ≡ mix_told answer };
+
+    // Number and values of each case.
+    fn from(answer: Result<usize, Error>) -> MixTold {
+        match answer {
+            Ok(clipped) => MixTold {
+                number: 0,
+                needed: 0,
+                clipped,
+            },
+            Err(e) => MixTold {
+                number: e.number(),
+                needed: e.needed(),
+                clipped: 0,
+            },
+        }
+    }
+}
+
 // Each mono sample of input on both channels, at the front of out.
 // Kept: a loop of its own, by place: as a closure of `write_samples` it took seven times as long.
 pub fn mono_to_stereo(input: &[u8], out: &mut [u8])

@@ -13,6 +13,7 @@ use Rattle.cookbook.specs.declared.BiquadKind.{BiquadKind}
 use Rattle.cookbook.specs.declared.BiquadKind.TheVariants.{LowPass, HighPass, Peak, Notch}
 use Rattle.cookbook.specs.declared.Section.{Section}
 use Rattle.cookbook.specs.declared.Coefficients.{Coefficients}
+use Rattle.cookbook.specs.declared.DesignTold.{DesignTold}
 
 abbrev pub zero : Float
 zero = of_int binary64 (pos 0)
@@ -130,10 +131,6 @@ design_answer kind rate sine cosine a = cond (design_allowed kind rate sine cosi
 
 abbrev pub all_zero : Coefficients
 all_zero = record { b0 = plus_zero; b1 = plus_zero; b2 = plus_zero; a1 = plus_zero; a2 = plus_zero }
-
-pub record DesignTold : Type 0 where
-  pub number : ℕ
-  pub coefficients : Coefficients
 
 -- the number and the coefficients that each answer tells: 0 and the coefficients, or the refusal's number and five times 0
 abbrev pub design_told : (Result Coefficients Error) → DesignTold

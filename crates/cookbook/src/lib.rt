@@ -26,6 +26,37 @@ pub struct Coefficients {
     pub a2: f32,
 }
 
+// Number and coefficients of an answer: 0 and the coefficients, or the refusal's number and five times 0.
+#[derive(Clone, Copy)]
+pub struct DesignTold {
+    pub number: u16,
+    pub coefficients: Coefficients,
+}
+
+impl From<Result<Coefficients, Error>> for DesignTold {
+    ghost from_gives = { λ answer told. told ≡ design_told answer };
+
+    // Number and coefficients of each case.
+    fn from(answer: Result<Coefficients, Error>) -> DesignTold {
+        match answer {
+            Ok(coefficients) => DesignTold {
+                number: 0,
+                coefficients,
+            },
+            Err(e) => DesignTold {
+                number: e.number(),
+                coefficients: Coefficients {
+                    b0: 0.0,
+                    b1: 0.0,
+                    b2: 0.0,
+                    a1: 0.0,
+                    a2: 0.0,
+                },
+            },
+        }
+    }
+}
+
 // The cookbook's six, before they are divided by a0.
 #[derive(Clone, Copy)]
 pub struct Section {

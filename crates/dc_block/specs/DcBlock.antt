@@ -9,6 +9,7 @@ use Rattle.pcm.specs.Refusals.{refusal, ask, number_of, if_accepted, Verdict}
 use Rattle.floats.specs.Operations.{plus_zero, ◌+₃₂◌, ◌-₃₂◌, ◌*₃₂◌, ◌/₃₂◌}
 use Rattle.filters.specs.declared.Taps.{Taps}
 use Rattle.dc_block.specs.declared.DcBlock.{DcBlock}
+use Rattle.dc_block.specs.declared.PoleTold.{PoleTold}
 
 -- (x - x1) + r * y1
 abbrev pub blocked : Float → Float → Float → Float → Float
@@ -32,10 +33,6 @@ pole_verdict rate = ask (rate_allowed rate) InvalidFormat (Ok tt)
 
 unfoldable pub pole_answer : Float → ℕ → Result Float Error
 pole_answer corner rate = cond (rate_allowed rate) (Ok (pole_of corner rate)) (Err InvalidFormat)
-
-pub record PoleTold : Type 0 where
-  pub number : ℕ
-  pub pole : Float
 
 -- the number and the pole that each answer tells: 0 and the pole, or the refusal's number and 0
 abbrev pub pole_told : (Result Float Error) → PoleTold

@@ -15,6 +15,28 @@ use pcm::Error;
 // 2π as a binary32.
 const TAU: f32 = 6.2831855;
 
+// Number and pole of an answer: 0 and the pole, or the refusal's number and 0.
+#[derive(Clone, Copy)]
+pub struct PoleTold {
+    pub number: u16,
+    pub pole: f32,
+}
+
+impl From<Result<f32, Error>> for PoleTold {
+    ghost from_gives = { λ answer told. told ≡ pole_told answer };
+
+    // Number and pole of each case.
+    fn from(answer: Result<f32, Error>) -> PoleTold {
+        match answer {
+            Ok(pole) => PoleTold { number: 0, pole },
+            Err(e) => PoleTold {
+                number: e.number(),
+                pole: 0.0,
+            },
+        }
+    }
+}
+
 // The corner's bits, as they came, and the pole, +0 until the filter is tuned to a rate.
 #[derive(Clone, Copy)]
 pub struct DcBlock {

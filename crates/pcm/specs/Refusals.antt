@@ -2,6 +2,7 @@
 use Rattle.std.specs.Prelude.{ℕ, Bool, true, false, leb, Result, Ok, Err}
 use Rattle.pcm.specs.declared.Error.{Error}
 use Rattle.pcm.specs.declared.Error.TheVariants.{InvalidFormat, Unsupported, BufferTooSmall, InvalidGeometry, ShortRecord, UnknownStage, RecordLength, TooManyStages, SettingOutOfRange, TooLong, NoteTooLong}
+use Rattle.pcm.specs.declared.Valued.{Valued}
 
 -- a refusal yields its number, and 3 also the bytes needed
 pub record Refusal : Type 0 where
@@ -51,12 +52,13 @@ if_accepted (Ok _) value none = value
 if_accepted (Err e) value none = none
 
 -- what a call that gives a number tells: 0 and its value, or the refusal's number and 0
-pub record Valued : Type 0 where
-  pub number : ℕ
-  pub value : ℕ
-
 abbrev pub valued : Verdict → ℕ → Valued
 valued v value = record { number = number_of v; value = if_accepted v value 0 }
+
+-- the same of its answer
+abbrev pub value_told : Result ℕ Error → Valued
+value_told (Ok n) = valued (Ok tt) n
+value_told (Err e) = valued (Err e) 0
 
 -- is there room for the bytes needed? else 3
 unfoldable pub room_verdict : ℕ → ℕ → Verdict

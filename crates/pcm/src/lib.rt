@@ -4,7 +4,7 @@
 ghost use Rattle.std.specs.Prelude.{◌≡◌, ℕ, ℤ, List, ◌+◌, ◌*◌, ◌≤◌, ◌<◌, length};
 ghost use Rattle.pcm.specs.Formats.{rate_allowed, format_allowed, frame_bytes};
 ghost use Rattle.pcm.specs.Frames.{written};
-ghost use Rattle.pcm.specs.Refusals.{refusal, room_verdict};
+ghost use Rattle.pcm.specs.Refusals.{refusal, number_of, verdict_of, value_told, room_verdict};
 ghost use Rattle.pcm.specs.Samples.{held16, outside16, saturated, sample_at, stored, encode, Gives};
 
 pub const MAX_CHANNELS: u16 = 2;
@@ -89,6 +89,38 @@ impl Error {
         match self {
             Error::BufferTooSmall { needed } => needed,
             _ => 0,
+        }
+    }
+}
+
+// 0 of a call that gives an answer, or the refusal's number.
+pub fn number_of<T: Copy>(answer: Result<T, Error>) -> u16
+    ensures { result ≡ number_of (verdict_of answer) }
+{
+    match answer {
+        Ok(_) => 0,
+        Err(e) => e.number(),
+    }
+}
+
+// Number and value of a call that gives one: 0 and the value, or the refusal's number and 0.
+#[derive(Clone, Copy)]
+pub struct Valued {
+    pub number: u16,
+    pub value: usize,
+}
+
+impl From<Result<usize, Error>> for Valued {
+    ghost from_gives = { λ answer told. told ≡ value_told answer };
+
+    // Number and value of each case.
+    fn from(answer: Result<usize, Error>) -> Valued {
+        match answer {
+            Ok(value) => Valued { number: 0, value },
+            Err(e) => Valued {
+                number: e.number(),
+                value: 0,
+            },
         }
     }
 }

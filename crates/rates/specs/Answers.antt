@@ -2,7 +2,8 @@
 use Rattle.pcm.specs.declared.Error.{Error}
 use Rattle.std.specs.Prelude.{ℕ, leb, Ok, Err, Result}
 use Rattle.pcm.specs.declared.Error.TheVariants.{InvalidFormat, TooLong}
-use Rattle.pcm.specs.Refusals.{refusal, ask, Valued, valued, Verdict}
+use Rattle.pcm.specs.Refusals.{refusal, ask, value_told, Verdict}
+use Rattle.pcm.specs.declared.Valued.{Valued}
 use Rattle.rates.specs.Rates.{rates_allowed}
 use Rattle.rates.specs.declared.LinearResampler.{LinearResampler}
 
@@ -22,8 +23,7 @@ new_told (Err e) = rates_told (Err e) 0 0
 
 -- 0 and the frames, or the refusal's number
 abbrev pub max_told : (Result ℕ Error) → Valued
-max_told (Ok n) = valued (Ok tt) n
-max_told (Err e) = valued (Err e) 0
+max_told = value_told
 
 -- are its rates within the limit? else 1
 abbrev pub new_verdict : ℕ → ℕ → Verdict
