@@ -87,11 +87,7 @@ fn opens(
     recipe: &[u8],
 ) -> io::Result<Option<Pipeline>> {
     let opened = Pipeline::open(format, recipe);
-    let number = match opened {
-        Ok(_) => 0,
-        Err(e) => e.number(),
-    };
-    line(rt, label, number, 0)?;
+    line(rt, label, pcm::number_of(opened), 0)?;
     Ok(opened.ok())
 }
 

@@ -1,8 +1,9 @@
 // Each command: its fields, the call, its answer. An error where the script ends inside it.
 use crate::{Buffers, Replay};
 use answers::{Answer, FinishTold, Told};
-use cookbook::Coefficients;
-use dc_block::DcBlock;
+use channels::MixTold;
+use cookbook::{Coefficients, DesignTold};
+use dc_block::{DcBlock, PoleTold};
 use gain::Gain;
 use pcm::Error;
 use pipeline::{Pipeline, WriteTold};
@@ -15,14 +16,11 @@ impl<I: Read, O: Write> Replay<I, O> {
     pub fn open(&mut self, buf: &mut [u8]) -> io::Result<()> {
         let format = self.format()?;
         let recipe = self.bytes(buf)?;
-        let number = match Pipeline::open(format, recipe) {
-            Ok(chain) => {
-                self.chain = chain;
-                0
-            }
-            Err(e) => e.number(),
-        };
-        self.put(number.to_le_bytes())
+        let opened = Pipeline::open(format, recipe);
+        if let Ok(chain) = opened {
+            self.chain = chain;
+        }
+        self.put(pcm::number_of(opened).to_le_bytes())
     }
 
     // The output's part of the halves that were lent, and every byte of them; then the counters, and how many samples were held back.
@@ -114,14 +112,11 @@ impl<I: Read, O: Write> Replay<I, O> {
         let a = self.bytes(&mut buffers.a)?;
         let b = self.bytes(&mut buffers.b)?;
         let out = self.bytes(&mut buffers.sound)?;
-        let (number, needed, clipped) = match channels::mix_i16(a, b, out) {
-            Ok(clipped) => (0, 0, clipped),
-            Err(e) => (e.number(), e.needed(), 0),
-        };
-        self.put(number.to_le_bytes())?;
-        self.put_count(needed)?;
+        let t = MixTold::from(channels::mix_i16(a, b, out));
+        self.put(t.number.to_le_bytes())?;
+        self.put_count(t.needed)?;
         self.put_bytes(out)?;
-        self.put_count(clipped)
+        self.put_count(t.clipped)
     }
 
     pub fn max_output_frames(&mut self) -> io::Result<()> {
@@ -135,12 +130,9 @@ impl<I: Read, O: Write> Replay<I, O> {
     pub fn pole(&mut self) -> io::Result<()> {
         let corner = self.float()?;
         let rate = u32::from_le_bytes(self.field()?);
-        let (number, pole) = match DcBlock::pole(corner, rate) {
-            Ok(pole) => (0, pole),
-            Err(e) => (e.number(), 0.0),
-        };
-        self.put(number.to_le_bytes())?;
-        self.put_float(pole)
+        let t = PoleTold::from(DcBlock::pole(corner, rate));
+        self.put(t.number.to_le_bytes())?;
+        self.put_float(t.pole)
     }
 
     pub fn design(&mut self) -> io::Result<()> {
@@ -149,12 +141,10 @@ impl<I: Read, O: Write> Replay<I, O> {
         let sine = self.double()?;
         let cosine = self.double()?;
         let a = self.double()?;
-        let (number, designed) = match Coefficients::design(kind, rate, sine, cosine, a) {
-            Ok(k) => (0, [k.b0, k.b1, k.b2, k.a1, k.a2]),
-            Err(e) => (e.number(), [0.0; 5]),
-        };
-        self.put(number.to_le_bytes())?;
-        for x in designed {
+        let t = DesignTold::from(Coefficients::design(kind, rate, sine, cosine, a));
+        let k = t.coefficients;
+        self.put(t.number.to_le_bytes())?;
+        for x in [k.b0, k.b1, k.b2, k.a1, k.a2] {
             self.put_float(x)?;
         }
         Ok(())

@@ -1,6 +1,6 @@
 // The fields of an answer, written low byte first.
 use crate::Replay;
-use pcm::{Error, PcmFormat, Saturated};
+use pcm::{Error, PcmFormat, Saturated, Valued};
 use room::RoomTold;
 use std::io;
 use std::io::Write;
@@ -46,12 +46,9 @@ impl<I, O: Write> Replay<I, O> {
 
     // 0 and a count, or a refusal's number and 0.
     pub fn put_value(&mut self, answer: Result<usize, Error>) -> io::Result<()> {
-        let (number, value) = match answer {
-            Ok(value) => (0, value),
-            Err(e) => (e.number(), 0),
-        };
-        self.put(number.to_le_bytes())?;
-        self.put_count(value)
+        let t = Valued::from(answer);
+        self.put(t.number.to_le_bytes())?;
+        self.put_count(t.value)
     }
 
     // Number and frames of a room known beforehand, and the bytes of one half.
