@@ -128,7 +128,12 @@ pub fn walked<C: Chain>(chain: &C, own: Head, asking: Asking, start: Walk) -> Re
 
 // The same along the first `count` stages of words, whether they stand for a chain or not.
 // Kept beside it: that chain's count may be another, and words that stand for none are read as one that has nine stages.
-pub fn walked_of_words(words: &[u32], count: usize, asking: Asking, start: Walk) -> Result<Walk, Error>
+pub fn walked_of_words(
+    words: &[u32],
+    count: usize,
+    asking: Asking,
+    start: Walk,
+) -> Result<Walk, Error>
     requires long { 152 ≤ length words.now }
     requires start { Asks asking.question asking.shorter start.format.rate (chain_at words.now).stages count start start 0 }
     ensures { Walked result (walked asking.question asking.shorter start (take count (chain_at words.now).stages)) }

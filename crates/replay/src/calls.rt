@@ -10,7 +10,7 @@ use pipeline::{Pipeline, WriteTold};
 use rates::LinearResampler;
 use room::RoomTold;
 use std::io;
-use std::io::{Read, Write};
+use std::io::{ErrorKind, Read, Write};
 
 impl<I: Read, O: Write> Replay<I, O> {
     pub fn open(&mut self, buf: &mut [u8]) -> io::Result<()> {
@@ -135,12 +135,14 @@ impl<I: Read, O: Write> Replay<I, O> {
         self.put_float(t.pole)
     }
 
+    // A kind that there is not counts as the end, once its fields are there.
     pub fn design(&mut self) -> io::Result<()> {
         let kind = self.filter_kind()?;
         let rate = u32::from_le_bytes(self.field()?);
         let sine = self.double()?;
         let cosine = self.double()?;
         let a = self.double()?;
+        let kind = kind.ok_or(ErrorKind::InvalidData)?;
         let t = DesignTold::from(Coefficients::design(kind, rate, sine, cosine, a));
         let k = t.coefficients;
         self.put(t.number.to_le_bytes())?;

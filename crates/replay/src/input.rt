@@ -41,18 +41,18 @@ impl<I: Read, O> Replay<I, O> {
         Ok(PcmFormat { rate, channels })
     }
 
-    // A filter's kind and its three parameters, of which a peak alone takes the third. A kind that there is not counts as the end.
-    pub fn filter_kind(&mut self) -> io::Result<BiquadKind> {
+    // A filter's kind and its three parameters, of which a peak alone takes the third; None for a kind that there is not.
+    pub fn filter_kind(&mut self) -> io::Result<Option<BiquadKind>> {
         let number = u8::from_le_bytes(self.field()?);
         let f0 = self.float()?;
         let q = self.float()?;
         let gain_db = self.float()?;
-        match number {
-            1 => Ok(BiquadKind::LowPass { f0, q }),
-            2 => Ok(BiquadKind::HighPass { f0, q }),
-            3 => Ok(BiquadKind::Peak { f0, q, gain_db }),
-            4 => Ok(BiquadKind::Notch { f0, q }),
-            _ => Err(ErrorKind::InvalidData.into()),
-        }
+        Ok(match number {
+            1 => Some(BiquadKind::LowPass { f0, q }),
+            2 => Some(BiquadKind::HighPass { f0, q }),
+            3 => Some(BiquadKind::Peak { f0, q, gain_db }),
+            4 => Some(BiquadKind::Notch { f0, q }),
+            _ => None,
+        })
     }
 }

@@ -6,9 +6,15 @@ use std::io;
 use std::io::Write;
 
 impl<I, O: Write> Replay<I, O> {
+    // Bytes of an answer. A write that fails is passed over, and the script goes on.
+    fn write(&mut self, bytes: &[u8]) {
+        let _ = self.answers.write_all(bytes);
+    }
+
     // A field's bytes.
     pub fn put<const N: usize>(&mut self, field: [u8; N]) -> io::Result<()> {
-        self.answers.write_all(&field)
+        self.write(&field);
+        Ok(())
     }
 
     // A count in eight bytes.
@@ -24,7 +30,8 @@ impl<I, O: Write> Replay<I, O> {
     // A length and so many bytes.
     pub fn put_bytes(&mut self, s: &[u8]) -> io::Result<()> {
         self.put_length(s.len())?;
-        self.answers.write_all(s)
+        self.write(s);
+        Ok(())
     }
 
     // A float's bits, the same for every NaN.
