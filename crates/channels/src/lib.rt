@@ -8,7 +8,7 @@ ghost use Rattle.channels.specs.Channels.{stereo_bytes, mono_bytes, mixed, mixed
 
 use pcm::Error;
 
-// Number and values of a mix's answer: the bytes needed where it is refused for room, and how many sums were held back where it is accepted.
+// Number and values of a mix's answer: how many sums were held back, or the refusal's number and the bytes needed; else 0.
 #[derive(Clone, Copy)]
 pub struct MixTold {
     pub number: u16,
@@ -22,10 +22,10 @@ impl From<Result<usize, Error>> for MixTold {
     // Number and values of each case.
     fn from(answer: Result<usize, Error>) -> MixTold {
         match answer {
-            Ok(clipped) => MixTold {
+            Ok(n) => MixTold {
                 number: 0,
                 needed: 0,
-                clipped,
+                clipped: n,
             },
             Err(e) => MixTold {
                 number: e.number(),
