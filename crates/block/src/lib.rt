@@ -127,7 +127,7 @@ pub fn walked<C: Chain>(chain: &C, own: Head, asking: Asking, start: Walk) -> Re
 }
 
 // The same along the first `count` stages of words, whether they stand for a chain or not.
-// Kept beside it: that chain's count may be another, and words that stand for none are read as one that has nine stages.
+// Kept beside `walked`, which goes by a chain's own count, and for which words that stand for no chain are one of nine stages.
 pub fn walked_of_words(
     words: &[u32],
     count: usize,

@@ -15,7 +15,7 @@ ghost use Rattle.muzgleur.specs.Results.{open_outcome, block_outcome, finish_out
 
 use answers::{FinishTold, Told};
 use chain_words::CHAIN_WORDS;
-use pcm::{Error, PcmFormat};
+use pcm::{Error, PcmFormat, Valued};
 use pipeline::{Pipeline, WriteTold};
 use room::RoomTold;
 
@@ -45,14 +45,12 @@ pub struct ScratchResult {
 impl From<Result<usize, Error>> for ScratchResult {
     ghost from_gives = { λ answer told. told ≡ scratch_result answer };
 
-    // Number and value of each case.
+    // As `Valued`, in C's layout.
     fn from(answer: Result<usize, Error>) -> ScratchResult {
-        match answer {
-            Ok(value) => ScratchResult { number: 0, value },
-            Err(e) => ScratchResult {
-                number: e.number(),
-                value: 0,
-            },
+        let told = Valued::from(answer);
+        ScratchResult {
+            number: told.number,
+            value: told.value,
         }
     }
 }
